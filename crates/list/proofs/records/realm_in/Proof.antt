@@ -1,0 +1,22 @@
+use native.Mathlib.Omega.{arith}
+use borrow.Author.Needs.{needs}
+use Rattle.list.proofs.records.realm_in.Statement.{statement}
+use Rattle.list.proofs.records.realm_in.Tie as tie
+use Rattle.list.proofs.records.realm_in.Reads as reads
+use Rattle.list.proofs.records.realm_in.Lts as lts
+use Rattle.words.proofs.realm.realm_at.Reads as realm-at-reads
+
+-- src/records.rt:40:9
+returns : tie.Need-returns
+returns c = ?
+
+-- src/records.rt:42:5
+realm-at-requires : tie.Need-realm-at-requires
+realm-at-requires c κs = search needs
+
+-- src/records.rt:36:1
+returns-2 : tie.Need-returns-2
+returns-2 c = ?
+
+pub realm-in-spec : {M : Type 1} → statement M
+realm-in-spec = tie.close (tie.spec returns realm-at-requires returns-2)

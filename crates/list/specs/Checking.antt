@@ -1,0 +1,112 @@
+-- A whole list: its records with their places, and what the check says of it.
+use mathlib.Core.Path.{_≡_}
+use mathlib.Core.Bool.{Bool, not}
+use mathlib.Core.List.{List, [], _∷_}
+use Prim.Native.Nat.{ℕ, zero, suc, _+_}
+use lib.Dec.{eqb, ltb}
+use lib.ListN.{length, drop}
+use Rattle.words.specs.Test.{if_then_else_, anyOf}
+use Rattle.words.specs.Said.{Said, done, refused, andThen}
+use Rattle.words.specs.Realm.{realmAt}
+use Rattle.words.specs.declared.realm.Realm.{Realm}
+use Rattle.list.specs.Kind.{size, wantsMask}
+use Rattle.list.specs.Reading.{readOf}
+use Rattle.list.specs.Fault.{noRecord, fault, lacksControl, endFault}
+use Rattle.list.specs.Walking.{begins}
+use Rattle.list.specs.declared.records.Record.{Record}
+use Rattle.list.specs.declared.records.Read.{Read}
+use Rattle.list.specs.declared.records.Read.the-variants.{Nothing, Unknown, Short, Whole}
+use Rattle.list.specs.declared.faults.Seen.{Seen}
+use Rattle.list.specs.declared.check.Verdict.{Verdict}
+use Rattle.list.specs.declared.check.Verdict.the-variants.{Fine, Refused}
+
+-- a place of a list and what is read there
+pub record Found : Type 0 where
+  pub at : ℕ
+  pub read : Read
+
+unfoldable pub found : ℕ → Read → Found
+found at read = record { at = at; read = read }
+
+-- what is read at a place, and after a whole record what follows it
+unfoldable pub following : ℕ → Read → (Record → List Found) → List Found
+following at Nothing rest = []
+following at Unknown rest = found at Unknown ∷ []
+following at Short rest = found at Short ∷ []
+following at (Whole r) rest = found at (Whole r) ∷ rest r
+
+-- a tail that begins at a place, record by record; the first number bounds how many they are
+unfoldable pub cutFrom : ℕ → ℕ → List ℕ → List Found
+cutFrom zero at tail = []
+cutFrom (suc n) at tail = following at (readOf tail) (λ r. cutFrom n (at + size (r .kind)) (drop (size (r .kind)) tail))
+
+-- a record has a byte at least, so there are no more of them than bytes
+unfoldable pub cut : List ℕ → List Found
+cut list = cutFrom (length list) 0 list
+
+-- a record and its place
+pub record Placed : Type 0 where
+  pub at : ℕ
+  pub it : Record
+
+unfoldable pub withWhole : ℕ → Read → List Placed → List Placed
+withWhole at Nothing rest = rest
+withWhole at Unknown rest = rest
+withWhole at Short rest = rest
+withWhole at (Whole r) rest = record { at = at; it = r } ∷ rest
+
+unfoldable pub wholes : List Found → List Placed
+wholes [] = []
+wholes (f ∷ fs) = withWhole (f .at) (f .read) (wholes fs)
+
+-- the records of a list with their places
+unfoldable pub records : List ℕ → List Placed
+records list = wholes (cut list)
+
+-- the refusal at a place, if there is one
+unfoldable pub refusedAt : ℕ → ℕ → Said
+refusedAt place number = if eqb number 0 then done [] else refused number (place ∷ [])
+
+-- the record that the next one is compared with
+unfoldable pub passed : Read → Record
+passed Nothing = noRecord
+passed Unknown = noRecord
+passed Short = noRecord
+passed (Whole r) = r
+
+-- each record from the left: the first that earns a refusal
+unfoldable pub faultsAfter : Realm → Record → List Found → Said
+faultsAfter home earlier [] = done []
+faultsAfter home earlier (f ∷ fs) =
+    andThen (refusedAt (f .at) (fault home earlier (f .read))) (faultsAfter home (passed (f .read)) fs)
+
+unfoldable pub has : (Record → Bool) → List Placed → Bool
+has test = anyOf (λ p. test (p .it))
+
+-- what the end asks of the records
+unfoldable pub seenIn : List Placed → Seen
+seenIn rs = record {
+  user = has (λ r. eqb (r .kind) 2) rs;
+  group = has (λ r. eqb (r .kind) 3) rs;
+  other = has (λ r. eqb (r .kind) 4) rs;
+  mask = has (λ r. eqb (r .kind) 5) rs;
+  wanting = has (λ r. wantsMask (r .kind)) rs;
+  powerless = has lacksControl rs;
+}
+
+-- each record is checked from the left; after the last come 17, 18, 19
+unfoldable pub checkSays : List ℕ → Said
+checkSays list =
+    if ltb 4096 (length list) then refused 10 (0 ∷ []) else
+    if not (begins list) then refused 11 (0 ∷ []) else
+    andThen (faultsAfter (realmAt 1 list) noRecord (cut list))
+    (refusedAt (length list) (endFault (seenIn (records list))))
+
+-- what each verdict says by 01's numbers
+unfoldable pub verdictSays : Verdict → Said
+verdictSays Fine = done []
+verdictSays (Refused number place) = refused number (place ∷ [])
+
+-- checking a list
+pub record Checks (list : List ℕ) (r : Verdict) : Type 0 where
+  pub answer : verdictSays r ≡ checkSays list

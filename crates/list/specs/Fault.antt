@@ -1,0 +1,50 @@
+-- Refusals 12 to 16 of one record, by the default realm and the record before it; refusals 17 to 19 of all of them.
+use mathlib.Core.Bool.{Bool, not, _||_, _&&_}
+use Prim.Native.Nat.{ℕ, _/_, _%_}
+use lib.Dec.{eqb, ltb}
+use Rattle.words.specs.Test.{if_then_else_}
+use Rattle.words.specs.Number.{less}
+use Rattle.words.specs.Realm.{zeroRealm, unknownRealm, sameRealm, lessRealm}
+use Rattle.words.specs.declared.realm.Realm.{Realm}
+use Rattle.list.specs.Kind.{isForeign, wantsMask}
+use Rattle.list.specs.declared.records.Record.{Record}
+use Rattle.list.specs.declared.records.Read.{Read}
+use Rattle.list.specs.declared.records.Read.the-variants.{Nothing, Unknown, Short, Whole}
+use Rattle.list.specs.declared.faults.Seen.{Seen}
+
+-- what stands before the first record: a kind below all
+unfoldable pub noRecord : Record
+noRecord = record { kind = 0; realm = zeroRealm; id = 0; rights = 0 }
+
+-- strictly rising order of kind, then of body without its rights byte. Kind 1 stands once, whatever its realm
+unfoldable pub rises : Record → Record → Bool
+rises earlier r =
+    less (earlier .kind) (r .kind)
+    (not (eqb (r .kind) 1) && lessRealm (earlier .realm) (r .realm) (ltb (earlier .id) (r .id)))
+
+-- the unknown realm, or a foreign record that names the default realm
+unfoldable pub isForbidden : Realm → Record → Bool
+isForbidden home r = sameRealm (r .realm) unknownRealm || (isForeign (r .kind) && sameRealm (r .realm) home)
+
+-- the refusal of what is read after a record, in a list of that default realm; 0 where there is none
+unfoldable pub fault : Realm → Record → Read → ℕ
+fault home earlier Nothing = 0
+fault home earlier Unknown = 12
+fault home earlier Short = 13
+fault home earlier (Whole r) =
+    if ltb 63 (r .rights) then 14 else
+    if not (rises earlier r) then 15 else
+    if isForbidden home r then 16 else
+    0
+
+-- user_obj without control, which is 8
+unfoldable pub lacksControl : Record → Bool
+lacksControl r = eqb (r .kind) 2 && eqb (r .rights / 8 % 2) 0
+
+-- the refusal that comes after the last record, by what the records have; 0 where there is none
+unfoldable pub endFault : Seen → ℕ
+endFault seen =
+    if not (seen .user && (seen .group && seen .other)) then 17 else
+    if seen .wanting && not (seen .mask) then 18 else
+    if seen .powerless then 19 else
+    0

@@ -1,0 +1,168 @@
+// The walk over a list, from record to record; its steps make all of the list's checks.
+use crate::faults::Seen;
+use crate::faults::end_fault;
+use crate::faults::fault_of;
+use crate::faults::seen_after;
+use crate::kind::DEFAULT_REALM;
+use crate::kind::size_of;
+use crate::records::Read;
+use crate::records::Record;
+use crate::records::read_record;
+use crate::refusal::CUT_SHORT;
+use crate::refusal::NO_DEFAULT_REALM;
+use crate::refusal::TOO_LONG;
+use crate::refusal::UNKNOWN_KIND;
+use words::realm::Realm;
+use words::realm::realm_at;
+ghost use mathlib.Core.Path.{_≡_};
+ghost use mathlib.Core.Bool.{Bool};
+ghost use Prim.Native.Nat.{_+_, _<_, _^_};
+ghost use lib.ListN.{length};
+ghost use Rattle.list.specs.Kind.{size};
+ghost use Rattle.list.specs.Reading.{readOf};
+ghost use Rattle.list.specs.Fault.{endFault};
+ghost use Rattle.list.specs.Walking.{walkAfter, refusedOr, heard, begins, Starts, Steps};
+ghost use Rattle.list.specs.declared.records.Read.the-variants.{Whole};
+ghost use Rattle.list.specs.declared.walk.Step.the-variants.{End};
+
+const LONGEST: usize = 4096;
+
+// Where the next record begins, the default realm, the record before, and what has been seen so far.
+pub struct Walk {
+    pub at: usize,
+    pub home: Realm,
+    pub earlier: Record,
+    pub seen: Seen,
+}
+
+pub enum Step {
+    Next(Record, Walk),
+    Refused { number: u8, place: usize },
+    End,
+}
+
+fn begins_list(list: &[u8]) -> bool
+    ensures { λ r. ⌜ r ≡ begins (now (list .entry)) ⌝ }
+{
+    if list.len() == 0 {
+        return false;
+    }
+    list[0] == DEFAULT_REALM
+}
+
+impl Walk {
+    // The walk at the beginning of a list.
+    pub fn start(list: &[u8]) -> Walk
+        ensures { λ r. ⌜ Starts (now (list .entry)) r ⌝ }
+    {
+        let none = Record {
+            kind: 0,
+            realm: Realm { hi: 0, lo: 0 },
+            id: 0,
+            rights: 0,
+        };
+        let unseen = Seen {
+            user: false,
+            group: false,
+            other: false,
+            mask: false,
+            wanting: false,
+            powerless: false,
+        };
+        Walk {
+            at: 0,
+            home: realm_at(list, 1),
+            earlier: none,
+            seen: unseen,
+        }
+    }
+
+    fn after(self, r: Record) -> Walk
+        requires { ⌜ self .at + size (r .kind) < 2 ^ 64 ⌝ }
+        ensures { λ w. ⌜ w ≡ walkAfter self r ⌝ }
+    {
+        let seen = self.seen;
+        let home = self.home;
+        Walk {
+            at: self.at + size_of(r.kind),
+            home: home,
+            earlier: r,
+            seen: seen_after(seen, r),
+        }
+    }
+
+    // A whole record at the walk's place.
+    fn take(self, r: Record) -> Step
+        requires { ⌜ self .at + size (r .kind) < 2 ^ 64 ⌝ }
+        ensures { λ s. ⌜ s ≡ heard self (Whole r) ⌝ }
+    {
+        let home = self.home;
+        let earlier = self.earlier;
+        let number = fault_of(home, earlier, r);
+        if number != 0 {
+            return Step::Refused {
+                number: number,
+                place: self.at,
+            };
+        }
+        Step::Next(r, self.after(r))
+    }
+
+    // What is read from the tail at the walk's place.
+    fn hear(self, tail: &[u8]) -> Step
+        requires { ⌜ self .at + length (now tail) < 2 ^ 64 ⌝ }
+        ensures { λ s. ⌜ s ≡ heard self (readOf (now (tail .entry))) ⌝ }
+    {
+        match read_record(tail) {
+            Read::Nothing => Step::End,
+            Read::Unknown => Step::Refused {
+                number: UNKNOWN_KIND,
+                place: self.at,
+            },
+            Read::Short => Step::Refused {
+                number: CUT_SHORT,
+                place: self.at,
+            },
+            Read::Whole(r) => self.take(r),
+        }
+    }
+
+    // The end of a list of n bytes.
+    fn finish(self, n: usize) -> Step
+        ensures { λ s. ⌜ s ≡ refusedOr (endFault (self .seen)) n End ⌝ }
+    {
+        let seen = self.seen;
+        let number = end_fault(seen);
+        if number != 0 {
+            return Step::Refused {
+                number: number,
+                place: n,
+            };
+        }
+        Step::End
+    }
+
+    // The next record and the walk after it, or a refusal with its place, or the end.
+    pub fn step(self, list: &[u8]) -> Step
+        ensures { λ r. ⌜ Steps self (now (list .entry)) r ⌝ }
+    {
+        let at = self.at;
+        let n = list.len();
+        if LONGEST < n {
+            return Step::Refused {
+                number: TOO_LONG,
+                place: 0,
+            };
+        }
+        if (at == 0) & !begins_list(list) {
+            return Step::Refused {
+                number: NO_DEFAULT_REALM,
+                place: 0,
+            };
+        }
+        if n <= at {
+            return self.finish(n);
+        }
+        self.hear(&list[at..])
+    }
+}

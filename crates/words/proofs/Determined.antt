@@ -1,0 +1,23 @@
+-- Two outcomes that meet a statement are equal. Assumes nothing.
+use mathlib.Core.Path.{_≡_, sym, _∙_, ap}
+use mathlib.Core.Bool.{Bool}
+use mathlib.Core.List.{List}
+use Prim.Native.Nat.{ℕ}
+use Rattle.words.specs.Said.{Said}
+use Rattle.words.specs.Number.{ReadsNumber}
+use Rattle.words.specs.Realm.{ReadsRealm, TellsRealms}
+use Rattle.words.specs.declared.realm.Realm.{Realm}
+
+-- where an answer can be read back from what it says, two answers that say the same are equal
+pub same-answer : {R : Type 0} (saying : R → Said) (back : Said → R) → ((r : R) → back (saying r) ≡ r)
+    → {said : Said} (r r′ : R) → saying r ≡ said → saying r′ ≡ said → r ≡ r′
+same-answer saying back inverse r r′ p q = sym (inverse r) ∙ ap back (p ∙ sym q) ∙ inverse r′
+
+pub number32-determined : (bytes : List ℕ) (at r r′ : ℕ) → ReadsNumber 4 bytes at r → ReadsNumber 4 bytes at r′ → r ≡ r′
+number32-determined bytes at r r′ p q = p .answer ∙ sym (q .answer)
+
+pub realm-at-determined : (bytes : List ℕ) (at : ℕ) (r r′ : Realm) → ReadsRealm bytes at r → ReadsRealm bytes at r′ → r ≡ r′
+realm-at-determined bytes at r r′ p q = p .answer ∙ sym (q .answer)
+
+pub same-realm-determined : (a b : Realm) (r r′ : Bool) → TellsRealms a b r → TellsRealms a b r′ → r ≡ r′
+same-realm-determined a b r r′ p q = p .answer ∙ sym (q .answer)

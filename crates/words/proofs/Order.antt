@@ -1,0 +1,95 @@
+-- Comparing numbers is comparing their bytes. Assumes nothing.
+use mathlib.Core.Path.{_≡_, refl, sym, _∙_, ap}
+use mathlib.Core.List.{List, [], _∷_, _++_}
+use mathlib.Core.Bool.{Bool, true, false, _||_, _&&_, and-true}
+use Prim.Native.Nat.{ℕ, zero, suc, _+_, _*_, _/_, _%_, _^_, _≤_, _<_}
+use native.Mathlib.Omega.{arith}
+use borrow.Author.Tests.{ltb-true, ltb-false, eqb-true, eqb-false, lt-ltb, le-ltb, eq-eqb, ne-eqb}
+use lib.Arith.{digits-lt, digits-div, digits-mod}
+use lib.Dec.{ltb, eqb}
+use lib.ListN.{length}
+use Rattle.words.specs.Number.{Bytes, numberFrom, number, part, within, less, before}
+use Rattle.words.specs.Realm.{realmAt, sameRealm, lessRealm}
+use Rattle.words.specs.declared.realm.Realm.{Realm}
+use Rattle.words.proofs.Digits.{first, bounded, part-length, part-bytes, part-add}
+
+-- `less` by what is known of its numbers
+less-lt : (a b : ℕ) (r : Bool) → a < b → less a b r ≡ true
+less-lt a b r h = simp (lt-ltb a b h)
+
+less-gt : (a b : ℕ) (r : Bool) → b < a → less a b r ≡ false
+less-gt a b r h = let n : a ≡ b → ⊥ = λ e. omega arith in let g : b ≤ a = omega arith in simp (le-ltb a b g, ne-eqb a b n)
+
+pub less-same : (a : ℕ) (r : Bool) → less a a r ≡ r
+less-same a r = let g : a ≤ a = omega arith in simp (le-ltb a a g, eq-eqb a a refl)
+
+pub less-last : (a b : ℕ) → less a b false ≡ ltb a b
+less-last a b = go (ltb a b) (eqb a b)
+  where
+    go : (s t : Bool) → (s || (t && false)) ≡ s
+    go true t = refl
+    go false true = refl
+    go false false = refl
+
+-- two pairs that are ordered alike
+alike : (a b c d : ℕ) (r : Bool) → (a < b → c < d) → (a ≡ b → c ≡ d) → (b < a → d < c) → less c d r ≡ less a b r
+alike a b c d r f e g = go (ltb a b) (eqb a b) refl refl
+  where
+    go : (s t : Bool) → ltb a b ≡ s → eqb a b ≡ t → less c d r ≡ less a b r
+    go true t h k = let l = ltb-true a b h in less-lt c d r (f l) ∙ sym (less-lt a b r l)
+    go false true h k = let q = eqb-true a b k in rw (← e q, ← q) (less-same c r ∙ sym (less-same a r))
+    go false false h k =
+        let l : b < a = omega (arith, ltb-false a b h, eqb-false a b k) in
+        less-gt c d r (g l) ∙ sym (less-gt a b r l)
+
+-- two numbers of one digit more
+digit : (p x y a b : ℕ) (r : Bool) → a < p → b < p → less (x * p + a) (y * p + b) r ≡ less x y (less a b r)
+digit p x y a b r ha hb = go (ltb x y) (eqb x y) refl refl
+  where
+    go : (s t : Bool) → ltb x y ≡ s → eqb x y ≡ t → less (x * p + a) (y * p + b) r ≡ less x y (less a b r)
+    go true t h g =
+        let l : x < y = ltb-true x y h in
+        less-lt (x * p + a) (y * p + b) r (omega (arith, digits-lt l ha)) ∙ sym (less-lt x y (less a b r) l)
+    go false true h g =
+        rw (← eqb-true x y g)
+        (alike a b (x * p + a) (x * p + b) r (λ h. omega arith) (λ h. omega arith) (λ h. omega arith) ∙ sym (less-same x (less a b r)))
+    go false false h g =
+        let l : y < x = omega (arith, ltb-false x y h, eqb-false x y g) in
+        less-gt (x * p + a) (y * p + b) r (omega (arith, digits-lt l hb)) ∙ sym (less-gt x y (less a b r) l)
+
+-- bytes that are compared first are compared as one number
+pub numbers : (xs ys us vs : List ℕ) → length xs ≡ length ys → Bytes xs → Bytes ys
+    → before (xs ++ us) (ys ++ vs) ≡ less (number xs) (number ys) (before us vs)
+unfolding before numberFrom
+numbers [] [] us vs e h k = sym (less-same 0 (before us vs))
+numbers [] (y ∷ ys) us vs e h k = absurd (omega arith)
+numbers (x ∷ xs) [] us vs e h k = absurd (omega arith)
+numbers (x ∷ xs) (y ∷ ys) us vs e h k =
+    let q : length xs ≡ length ys = omega arith in
+    let ih = numbers xs ys us vs q (λ i. h (suc i)) (λ i. k (suc i)) in
+    rw (first x xs, first y ys, ih, ← q)
+    (sym (digit (256 ^ length xs) x y (number xs) (number ys) (before us vs) (bounded xs (λ i. h (suc i))) (rw q (bounded ys (λ i. k (suc i))))))
+
+-- bytes are told by their number
+pub spelled : (xs ys : List ℕ) → length xs ≡ length ys → Bytes xs → Bytes ys → number xs ≡ number ys → xs ≡ ys
+unfolding numberFrom
+spelled [] [] e h k q = refl
+spelled [] (y ∷ ys) e h k q = absurd (omega arith)
+spelled (x ∷ xs) [] e h k q = absurd (omega arith)
+spelled (x ∷ xs) (y ∷ ys) e h k q =
+    let l : length xs ≡ length ys = omega arith in
+    let bx = bounded xs (λ i. h (suc i)) in
+    let by = rw (← l) at (bounded ys (λ i. k (suc i))) in
+    let s : x * 256 ^ length xs + number xs ≡ y * 256 ^ length xs + number ys = sym (first x xs) ∙ q ∙ rw (← l) at (first y ys) in
+    let d : x ≡ y = sym (digits-div x bx) ∙ ap (λ (n : ℕ). n / 256 ^ length xs) s ∙ digits-div y by in
+    let m : number xs ≡ number ys = sym (digits-mod x bx) ∙ ap (λ (n : ℕ). n % 256 ^ length xs) s ∙ digits-mod y by in
+    let r : xs ≡ ys = spelled xs ys l (λ i. h (suc i)) (λ i. k (suc i)) m in
+    cc
+
+-- the same part of two lists, compared as a number before what stands lower
+module _ (t u : List ℕ) (ht : Bytes t) (hu : Bytes u) where
+  pub parts : (m n : ℕ) (us vs : List ℕ) (r : Bool) → m + n ≤ length t → m + n ≤ length u → before us vs ≡ r
+      → before (part m n t ++ us) (part m n u ++ vs) ≡ less (number (part m n t)) (number (part m n u)) r
+  parts m n us vs r lt lu e =
+      numbers (part m n t) (part m n u) us vs (part-length m n t lt ∙ sym (part-length m n u lu)) (part-bytes m n t ht) (part-bytes m n u hu)
+      ∙ ap (λ (b : Bool). less (number (part m n t)) (number (part m n u)) b) e

@@ -1,0 +1,4 @@
+pub mod Test
+pub mod Said
+pub mod Number
+pub mod Realm

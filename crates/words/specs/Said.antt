@@ -1,0 +1,14 @@
+-- What any call says.
+use Prim.Native.Nat.{ℕ}
+use mathlib.Core.List.{List}
+
+-- done, with the values that it answers; or refused, with 01's number and the values that go with it: the place for 10 to 19, the
+-- true count for 35
+pub data Said : Type 0 where
+  done : List ℕ → Said
+  refused : ℕ → List ℕ → Said
+
+-- the first of two that refuses
+unfoldable pub andThen : Said → Said → Said
+andThen (done values) next = next
+andThen (refused number values) next = refused number values

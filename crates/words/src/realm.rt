@@ -1,0 +1,29 @@
+// Realms: sixteen bytes, held as two numbers of eight.
+use crate::number::holds;
+use crate::number::whole64;
+ghost use Rattle.words.specs.Realm.{ReadsRealm, TellsRealms};
+
+pub struct Realm {
+    pub hi: u64,
+    pub lo: u64,
+}
+
+// The sixteen bytes at a place; zeroes where they are not all there.
+pub fn realm_at(bytes: &[u8], at: usize) -> Realm
+    ensures { λ r. ⌜ ReadsRealm (now (bytes .entry)) at r ⌝ }
+{
+    if holds(bytes, at, 16) {
+        Realm {
+            hi: whole64(bytes, at),
+            lo: whole64(bytes, at + 8),
+        }
+    } else {
+        Realm { hi: 0, lo: 0 }
+    }
+}
+
+pub fn same_realm(a: Realm, b: Realm) -> bool
+    ensures { λ r. ⌜ TellsRealms a b r ⌝ }
+{
+    (a.hi == b.hi) & (a.lo == b.lo)
+}
