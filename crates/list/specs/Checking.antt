@@ -49,11 +49,14 @@ pub record Placed : Type 0 where
   pub at : ℕ
   pub it : Record
 
+unfoldable pub placed : ℕ → Record → Placed
+placed at r = record { at = at; it = r }
+
 unfoldable pub withWhole : ℕ → Read → List Placed → List Placed
 withWhole at Nothing rest = rest
 withWhole at Unknown rest = rest
 withWhole at Short rest = rest
-withWhole at (Whole r) rest = record { at = at; it = r } ∷ rest
+withWhole at (Whole r) rest = placed at r ∷ rest
 
 unfoldable pub wholes : List Found → List Placed
 wholes [] = []

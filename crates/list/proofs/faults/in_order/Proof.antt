@@ -1,3 +1,6 @@
+use mathlib.Core.Path.{refl}
+use Rattle.words.specs.Realm.{lessRealm}
+use Rattle.list.specs.Fault.{rises}
 use borrow.Author.Needs.{needs}
 use native.Mathlib.Omega.{arith}
 use Rattle.list.proofs.faults.in_order.Statement.{statement}
@@ -7,7 +10,8 @@ use Rattle.list.proofs.faults.in_order.Lts as lts
 
 -- src/faults.rt:36:1
 returns : tie.Need-returns
-returns c = ?
+unfolding rises lessRealm
+returns c = refl
 
 pub in-order-spec : {M : Type 1} → statement M
 in-order-spec = tie.close (tie.spec returns)

@@ -1,3 +1,5 @@
+use Rattle.words.specs.Realm.{unknownRealm}
+use Rattle.list.specs.Fault.{isForbidden}
 use native.Mathlib.Omega.{arith}
 use borrow.Author.Needs.{needs}
 use Rattle.list.proofs.faults.is_forbidden.Statement.{statement}
@@ -21,7 +23,8 @@ same-realm-requires-2 c κs = search needs
 
 -- src/faults.rt:46:1
 returns : tie.Need-returns
-returns c = ?
+unfolding isForbidden unknownRealm
+returns c = simp (c .before .before .same-realm .ensures .answer, c .before .is-foreign .ensures, c .same-realm2 .ensures .answer)
 
 pub is-forbidden-spec : {M : Type 1} → statement M
 is-forbidden-spec =

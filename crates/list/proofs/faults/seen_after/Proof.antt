@@ -1,3 +1,4 @@
+use Rattle.list.specs.Walking.{seenAfter}
 use native.Mathlib.Omega.{arith}
 use borrow.Author.Needs.{needs}
 use Rattle.list.proofs.faults.seen_after.Statement.{statement}
@@ -17,7 +18,8 @@ lacks-control-requires c κs = search needs
 
 -- src/faults.rt:80:1
 returns : tie.Need-returns
-returns c = ?
+unfolding seenAfter
+returns c = simp (c .before .before .before .wants-mask .ensures, c .before .lacks-control .ensures)
 
 pub seen-after-spec : {M : Type 1} → statement M
 seen-after-spec = tie.close (tie.spec wants-mask-requires lacks-control-requires returns)

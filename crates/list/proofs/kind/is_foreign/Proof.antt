@@ -1,3 +1,4 @@
+use Rattle.list.specs.Kind.{isForeign}
 use native.Mathlib.Omega.{arith}
 use borrow.Author.Needs.{needs}
 use Rattle.list.proofs.kind.is_foreign.Statement.{statement}
@@ -12,7 +13,8 @@ realm-length-requires c κs = search needs
 
 -- src/kind.rt:67:1
 returns : tie.Need-returns
-returns c = ?
+unfolding isForeign
+returns c = simp (c .realm-length .ensures .0)
 
 pub is-foreign-spec : {M : Type 1} → statement M
 is-foreign-spec = tie.close (tie.spec realm-length-requires returns)

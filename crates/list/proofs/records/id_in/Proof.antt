@@ -1,3 +1,4 @@
+use borrow.Author.Tests.{eq-eqb, ne-eqb}
 use native.Mathlib.Omega.{arith}
 use borrow.Author.Needs.{needs}
 use Rattle.list.proofs.records.id_in.Statement.{statement}
@@ -8,7 +9,7 @@ use Rattle.words.proofs.number.number32.Reads as number32-reads
 
 -- src/records.rt:49:9
 returns : tie.Need-returns
-returns c = ?
+returns c = simp (eq-eqb _ _ (c .if1 .taken))
 
 -- src/records.rt:51:5
 number32-requires : tie.Need-number32-requires
@@ -16,7 +17,7 @@ number32-requires c κs = search needs
 
 -- src/records.rt:45:1
 returns-2 : tie.Need-returns-2
-returns-2 c = ?
+returns-2 c = simp (ne-eqb _ _ (c .before .if1 .left), c .number32 .ensures .answer)
 
 pub id-in-spec : {M : Type 1} → statement M
 id-in-spec = tie.close (tie.spec returns number32-requires returns-2)

@@ -1,48 +1,19 @@
-use native.Mathlib.Omega.{arith}
+use Rattle.list.proofs.Lengths.{unknown-size, known-size}
+use Rattle.list.specs.Reading.{readOf}
+use borrow.Author.Tests.{eq-eqb, ne-eqb, lt-ltb, le-ltb}
 use borrow.Author.Needs.{needs}
 use Rattle.list.proofs.records.read_record.Statement.{statement}
 use Rattle.list.proofs.records.read_record.Tie as tie
-use Rattle.list.proofs.records.read_record.Reads as reads
-use Rattle.list.proofs.records.read_record.Lts as lts
-use Rattle.list.proofs.kind.size_of.Reads as size-of-reads
-use Rattle.list.proofs.records.record_of.Reads as record-of-reads
-
--- src/records.rt:87:9
-returns : tie.Need-returns
-returns c = ?
-
--- src/records.rt:89:16
-shared-slice-read-kind : tie.Need-shared-slice-read-kind
-shared-slice-read-kind c = search needs
-
--- src/records.rt:90:9
-size-of-requires : tie.Need-size-of-requires
-size-of-requires c κs = search needs
-
--- src/records.rt:92:9
-returns-2 : tie.Need-returns-2
-returns-2 c = ?
-
--- src/records.rt:95:9
-returns-3 : tie.Need-returns-3
-returns-3 c = ?
-
--- src/records.rt:97:17
-record-of-requires : tie.Need-record-of-requires
-record-of-requires c κs = search needs
-
--- src/records.rt:83:1
-returns-4 : tie.Need-returns-4
-returns-4 c = ?
 
 pub read-record-spec : {M : Type 1} → statement M
+unfolding readOf
 read-record-spec =
     tie.close
     (tie.spec
-    returns
-    shared-slice-read-kind
-    size-of-requires
-    returns-2
-    returns-3
-    record-of-requires
-    returns-4)
+    (λ c. record { answer = simp (eq-eqb _ _ (c .if1 .taken)) })
+    (λ c. search needs)
+    (λ c κs. search needs)
+    (λ c. record { answer = simp (ne-eqb _ _ (c .before .before .before .if1 .left), unknown-size _ _ (c .before .size-of .ensures .0) (c .if2 .taken)) })
+    (λ c. record { answer = simp (ne-eqb _ _ (c .before .before .before .before .if1 .left), known-size _ _ (c .before .before .size-of .ensures .0) (c .before .if2 .left), ← c .before .before .size-of .ensures .0, lt-ltb _ _ (c .if3 .taken)) })
+    (λ c κs. search needs)
+    (λ c. record { answer = simp (ne-eqb _ _ (c .before .before .before .before .before .if1 .left), known-size _ _ (c .before .before .before .size-of .ensures .0) (c .before .before .if2 .left), ← c .before .before .before .size-of .ensures .0, le-ltb _ _ (c .before .if3 .left), c .record-of .ensures) }))

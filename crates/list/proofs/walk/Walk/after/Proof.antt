@@ -1,3 +1,4 @@
+use Rattle.list.specs.Walking.{walkAfter}
 use native.Mathlib.Omega.{arith}
 use borrow.Author.Needs.{needs}
 use Rattle.list.proofs.walk.Walk.after.Statement.{statement}
@@ -21,7 +22,8 @@ seen-after-requires c κs = search needs
 
 -- src/walk.rt:80:5
 returns : tie.Need-returns
-returns c = ?
+unfolding walkAfter
+returns c = cc (c .before .before .size-of .ensures .0)
 
 pub after-spec : {M : Type 1} → statement M
 after-spec = tie.close (tie.spec size-of-requires add-t6 seen-after-requires returns)

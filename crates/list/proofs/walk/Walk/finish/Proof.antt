@@ -1,3 +1,5 @@
+use borrow.Author.Tests.{eq-eqb, ne-eqb}
+use Rattle.list.specs.Walking.{refusedOr}
 use native.Mathlib.Omega.{arith}
 use borrow.Author.Needs.{needs}
 use Rattle.list.proofs.walk.Walk.finish.Statement.{statement}
@@ -12,11 +14,13 @@ end-fault-requires c κs = search needs
 
 -- src/walk.rt:137:13
 returns : tie.Need-returns
-returns c = ?
+unfolding refusedOr
+returns c = simp (← c .before .end-fault .ensures, ne-eqb _ _ (c .if1 .taken))
 
 -- src/walk.rt:131:5
 returns-2 : tie.Need-returns-2
-returns-2 c = ?
+unfolding refusedOr
+returns-2 c = simp (← c .before .end-fault .ensures, eq-eqb _ _ (c .if1 .left))
 
 pub finish-spec : {M : Type 1} → statement M
 finish-spec = tie.close (tie.spec end-fault-requires returns returns-2)

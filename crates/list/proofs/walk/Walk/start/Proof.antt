@@ -1,3 +1,6 @@
+use Rattle.words.specs.Realm.{zeroRealm}
+use Rattle.list.specs.Fault.{noRecord}
+use Rattle.list.specs.Walking.{startOf, unseen}
 use native.Mathlib.Omega.{arith}
 use borrow.Author.Needs.{needs}
 use Rattle.list.proofs.walk.Walk.start.Statement.{statement}
@@ -12,7 +15,8 @@ realm-at-requires c κs = search needs
 
 -- src/walk.rt:55:5
 returns : tie.Need-returns
-returns c = ?
+unfolding startOf unseen noRecord zeroRealm
+returns c = record { answer = simp (c .realm-at .ensures .answer) }
 
 pub start-spec : {M : Type 1} → statement M
 start-spec = tie.close (tie.spec realm-at-requires returns)

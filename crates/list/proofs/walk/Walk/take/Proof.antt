@@ -1,3 +1,5 @@
+use Rattle.list.specs.Walking.{heard, refusedOr, onward}
+use borrow.Author.Tests.{eq-eqb, ne-eqb}
 use native.Mathlib.Omega.{arith}
 use borrow.Author.Needs.{needs}
 use Rattle.list.proofs.walk.Walk.take.Statement.{statement}
@@ -13,7 +15,8 @@ fault-of-requires c κs = search needs
 
 -- src/walk.rt:103:13
 returns : tie.Need-returns
-returns c = ?
+unfolding heard refusedOr onward
+returns c = simp (← c .before .fault-of .ensures, ne-eqb _ _ (c .if1 .taken))
 
 -- src/walk.rt:108:23
 after-requires : tie.Need-after-requires
@@ -21,7 +24,8 @@ after-requires c κs = search needs
 
 -- src/walk.rt:95:5
 returns-2 : tie.Need-returns-2
-returns-2 c = ?
+unfolding heard refusedOr onward
+returns-2 c = simp (← c .before .before .fault-of .ensures, eq-eqb _ _ (c .before .if1 .left), c .after .ensures)
 
 pub take-spec : {M : Type 1} → statement M
 take-spec = tie.close (tie.spec fault-of-requires returns after-requires returns-2)

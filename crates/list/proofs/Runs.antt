@@ -1,0 +1,224 @@
+-- A loop over the walk makes the check and passes through the list's records. What is said of the rest of the list is what is said
+-- of the whole, and what is gathered from the rest is what is gathered from the whole; a step says how that goes on.
+-- Assumes nothing.
+use mathlib.Core.Path.{_≡_, refl, sym, _∙_, ap}
+use mathlib.Core.List.{List, [], _∷_, foldl}
+use mathlib.Core.Bool.{Bool, true, false, cond, not, _||_, _&&_, or-false}
+use Prim.Native.Nat.{ℕ, zero, suc, _+_, _-_, _≤_, _<_}
+use native.Mathlib.Omega.{arith}
+use borrow.Author.Tests.{leb-true, leb-false, ne-eqb}
+use lib.Dec.{eqb, ltb, leb}
+use lib.ListN.{length, getD, drop, length-drop, drop-of-length-le}
+use lib.Seq.{drop-drop}
+use Rattle.words.specs.Test.{if_then_else_, anyOf}
+use Rattle.words.specs.Said.{Said, done, refused, andThen}
+use Rattle.list.specs.Kind.{size, wantsMask}
+use Rattle.list.specs.Reading.{readOf}
+use Rattle.list.specs.Fault.{fault, lacksControl, endFault}
+use Rattle.list.specs.Walking.{unseen, seenAfter, startOf, walkAfter, refusedOr, onward, heard, begins, stepOf, Steps}
+use Rattle.list.specs.Checking.{Found, found, following, cutFrom, cut, Placed, placed, withWhole, wholes, records, refusedAt, passed, faultsAfter, has, seenIn, checkSays}
+use Rattle.list.specs.declared.records.Record.{Record}
+use Rattle.list.specs.declared.records.Read.{Read}
+use Rattle.list.specs.declared.records.Read.the-variants.{Nothing, Unknown, Short, Whole}
+use Rattle.list.specs.declared.faults.Seen.{Seen}
+use Rattle.list.specs.declared.walk.Walk.{Walk}
+use Rattle.list.specs.declared.walk.Step.{Step}
+use Rattle.list.specs.declared.walk.Step.the-variants.{Next, Refused, End}
+use Rattle.list.proofs.Lengths.{some-size}
+use Rattle.list.proofs.Tails.{within-tail, empty}
+
+-- what was seen, and what the records to come have
+seeing : Seen → List Placed → Seen
+seeing s rs = record {
+  user = s .user || has (λ r. eqb (r .kind) 2) rs;
+  group = s .group || has (λ r. eqb (r .kind) 3) rs;
+  other = s .other || has (λ r. eqb (r .kind) 4) rs;
+  mask = s .mask || has (λ r. eqb (r .kind) 5) rs;
+  wanting = s .wanting || has (λ r. wantsMask (r .kind)) rs;
+  powerless = s .powerless || has lacksControl rs;
+}
+
+seeing-none : (s : Seen) → seeing s [] ≡ s
+unfolding seeing has anyOf
+seeing-none s = simp or-false
+
+seeing-all : (rs : List Placed) → seeing unseen rs ≡ seenIn rs
+unfolding seeing unseen seenIn
+seeing-all rs = refl
+
+one-more : (a t h : Bool) → (a || cond t true h) ≡ ((a || t) || h)
+one-more true t h = refl
+one-more false true h = refl
+one-more false false h = refl
+
+seeing-more : (s : Seen) (at : ℕ) (r : Record) (rs : List Placed) → seeing s (placed at r ∷ rs) ≡ seeing (seenAfter s r) rs
+unfolding seeing seenAfter has anyOf placed
+seeing-more s at r rs = simp one-more
+
+wholes-whole : (at : ℕ) (r : Record) (fs : List Found) → wholes (found at (Whole r) ∷ fs) ≡ placed at r ∷ wholes fs
+unfolding wholes withWhole found placed
+wholes-whole at r fs = refl
+
+-- the list from the walk's place on, by at most n records
+rest : ℕ → Walk → List ℕ → List Found
+rest n w l = cutFrom n (w .at) (drop (w .at) l)
+
+-- what is said of it
+restSays : Walk → List ℕ → List Found → Said
+restSays w l fs =
+    if ltb 4096 (length l) then refused 10 (0 ∷ []) else
+    if eqb (w .at) 0 && not (begins l) then refused 11 (0 ∷ []) else
+    andThen (faultsAfter (w .home) (w .earlier) fs) (refusedAt (length l) (endFault (seeing (w .seen) (wholes fs))))
+
+-- a step to a record r and the walk v
+record Onward (n : ℕ) (w : Walk) (l : List ℕ) (r : Record) (v : Walk) : Type 0 where
+  fuel : ℕ
+  enough : length l - v .at ≤ fuel
+  moved : v .at ≡ w .at + size (r .kind)
+  inside : w .at + size (r .kind) ≤ length l
+  cuts : rest n w l ≡ found (w .at) (Whole r) ∷ rest fuel v l
+  says : restSays w l (rest n w l) ≡ restSays v l (rest fuel v l)
+
+record Over (n : ℕ) (w : Walk) (l : List ℕ) : Type 0 where
+  cuts : rest n w l ≡ []
+  says : restSays w l (rest n w l) ≡ done []
+
+Turn : ℕ → Walk → List ℕ → Step → Type 0
+Turn n w l (Next r v) = Onward n w l r v
+Turn n w l (Refused number place) = restSays w l (rest n w l) ≡ refused number (place ∷ [])
+Turn n w l End = Over n w l
+
+rest-none : (n : ℕ) (w : Walk) (l : List ℕ) → length l ≤ w .at → rest n w l ≡ []
+unfolding rest cutFrom following readOf
+rest-none n w l h = rw (drop-of-length-le l h) (go n)
+  where
+    go : (n : ℕ) → cutFrom n (w .at) [] ≡ []
+    go zero = refl
+    go (suc n) = refl
+
+module _ (w : Walk) (l : List ℕ) (short : ltb 4096 (length l) ≡ false) (begun : (eqb (w .at) 0 && not (begins l)) ≡ false) where
+  says-none : restSays w l [] ≡ refusedAt (length l) (endFault (w .seen))
+  unfolding restSays faultsAfter andThen wholes
+  says-none = simp (short, begun, seeing-none)
+
+  at-end : (n : ℕ) → length l ≤ w .at → Turn n w l (refusedOr (endFault (w .seen)) (length l) End)
+  unfolding Turn refusedOr refusedAt
+  at-end n h = go (eqb (endFault (w .seen)) 0) refl
+    where
+      go : (b : Bool) → eqb (endFault (w .seen)) 0 ≡ b → Turn n w l (if b then End else Refused (endFault (w .seen)) (length l))
+      go true q = record { cuts = rest-none n w l h; says = rw (rest-none n w l h, says-none) (simp q) }
+      go false q = rw (rest-none n w l h, says-none) (simp q)
+
+  -- a record that is refused is where the rest is cut
+  module _ (n : ℕ) (f : Found) (fs : List Found) (cuts : rest n w l ≡ f ∷ fs) where
+    refused-here : (number : ℕ) → fault (w .home) (w .earlier) (f .read) ≡ number → eqb number 0 ≡ false
+        → restSays w l (rest n w l) ≡ refused number (f .at ∷ [])
+    unfolding restSays faultsAfter refusedAt andThen
+    refused-here number q h = rw cuts (simp (short, begun, q, h))
+
+  module _ (m : ℕ) (r : Record) (read : readOf (drop (w .at) l) ≡ Whole r) where
+    next : Walk
+    next = walkAfter w r
+
+    cuts-whole : rest (suc m) w l ≡ found (w .at) (Whole r) ∷ rest m next l
+    unfolding rest cutFrom following next walkAfter
+    cuts-whole = simp (read, drop-drop)
+
+    not-begin : eqb (next .at) 0 ≡ false
+    unfolding next walkAfter
+    not-begin = ne-eqb (w .at + size (r .kind)) 0 (λ q. omega (arith, some-size (r .kind)))
+
+    says-next : eqb (fault (w .home) (w .earlier) (Whole r)) 0 ≡ true → restSays w l (rest (suc m) w l) ≡ restSays next l (rest m next l)
+    unfolding restSays faultsAfter refusedAt andThen passed found next walkAfter
+    says-next q = rw cuts-whole (simp (short, begun, not-begin, q, wholes-whole, seeing-more))
+
+    passes : length l - w .at ≤ suc m → eqb (fault (w .home) (w .earlier) (Whole r)) 0 ≡ true → Onward (suc m) w l r (walkAfter w r)
+    unfolding next walkAfter
+    passes h q =
+        let s = within-tail (drop (w .at) l) r read in
+        let p = some-size (r .kind) in
+        record {
+          fuel = m;
+          enough = omega (arith, length-drop (w .at) l);
+          moved = refl;
+          inside = omega (arith, length-drop (w .at) l);
+          cuts = cuts-whole;
+          says = says-next q;
+        }
+
+    whole-turn : length l - w .at ≤ suc m → Turn (suc m) w l (heard w (Whole r))
+    unfolding Turn heard refusedOr onward found
+    whole-turn h = go (eqb (fault (w .home) (w .earlier) (Whole r)) 0) refl
+      where
+        go : (b : Bool) → eqb (fault (w .home) (w .earlier) (Whole r)) 0 ≡ b
+            → Turn (suc m) w l (if b then Next r (walkAfter w r) else Refused (fault (w .home) (w .earlier) (Whole r)) (w .at))
+        go true q = passes h q
+        go false q = refused-here (suc m) (found (w .at) (Whole r)) (rest m next l) cuts-whole (fault (w .home) (w .earlier) (Whole r)) refl q
+
+  heard-turn : (n : ℕ) → length l - w .at ≤ n → w .at < length l → (read : Read) → readOf (drop (w .at) l) ≡ read → Turn n w l (heard w read)
+  unfolding Turn heard refusedOr rest cutFrom following fault found
+  heard-turn zero h k read q = absurd (omega arith)
+  heard-turn (suc m) h k Nothing q = absurd (omega (arith, length-drop (w .at) l, empty (drop (w .at) l) q))
+  heard-turn (suc m) h k Unknown q = refused-here (suc m) (found (w .at) Unknown) [] (simp q) 12 refl refl
+  heard-turn (suc m) h k Short q = refused-here (suc m) (found (w .at) Short) [] (simp q) 13 refl refl
+  heard-turn (suc m) h k (Whole r) q = whole-turn m r q h
+
+-- what a step does, whatever it gives
+turn : (n : ℕ) (w : Walk) (l : List ℕ) → length l - w .at ≤ n → Turn n w l (stepOf w l)
+unfolding Turn stepOf restSays
+turn n w l h = go (ltb 4096 (length l)) (eqb (w .at) 0 && not (begins l)) (leb (length l) (w .at)) refl refl refl
+  where
+    go : (a b c : Bool) → ltb 4096 (length l) ≡ a → (eqb (w .at) 0 && not (begins l)) ≡ b → leb (length l) (w .at) ≡ c
+        → Turn n w l (if a then Refused 10 0 else if b then Refused 11 0 else if c then refusedOr (endFault (w .seen)) (length l) End else heard w (readOf (drop (w .at) l)))
+    go true b c p q k = simp p
+    go false true c p q k = simp (p, q)
+    go false false true p q k = at-end w l p q n (leb-true (length l) (w .at) k)
+    go false false false p q k = heard-turn w l p q n h (leb-false (length l) (w .at) k) (readOf (drop (w .at) l)) refl
+
+-- a loop over the walk that has come to w and gathered a, from `first`, by f
+module _ {A : Type 0} (f : A → Placed → A) where
+  pub record Leads (l : List ℕ) (first a : A) (w : Walk) : Type 0 where
+    fuel : ℕ
+    enough : length l - w .at ≤ fuel
+    says : checkSays l ≡ restSays w l (rest fuel w l)
+    gathers : foldl f first (records l) ≡ foldl f a (wholes (rest fuel w l))
+
+  pub starts : (l : List ℕ) (a : A) → Leads l a a (startOf l)
+  unfolding checkSays restSays rest records cut startOf seeing unseen seenIn
+  starts l a = record { fuel = length l; enough = omega arith; says = refl; gathers = refl }
+
+  module _ (l : List ℕ) (first a : A) (w : Walk) (s : Step) (stepped : Steps w l s) (so-far : Leads l first a w) where
+    turned : Turn (so-far .fuel) w l s
+    turned = rw (stepped .answer) (turn (so-far .fuel) w l (so-far .enough))
+
+    pub goes : (r : Record) (v : Walk) → s ≡ Next r v → Leads l first (f a (placed (w .at) r)) v
+    unfolding Turn
+    goes r v q =
+        let t : Onward (so-far .fuel) w l r v = rw q at turned in
+        record {
+          fuel = t .fuel;
+          enough = t .enough;
+          says = so-far .says ∙ t .says;
+          gathers = so-far .gathers ∙ rw (t .cuts, wholes-whole) refl;
+        }
+
+    -- the record lies within the list
+    pub inside : (r : Record) (v : Walk) → s ≡ Next r v → w .at + size (r .kind) ≤ length l
+    unfolding Turn
+    inside r v q = let t : Onward (so-far .fuel) w l r v = rw q at turned in t .inside
+
+    pub falls : (r : Record) (v : Walk) → s ≡ Next r v → length l - v .at < length l - w .at
+    unfolding Turn
+    falls r v q = let t : Onward (so-far .fuel) w l r v = rw q at turned in omega (arith, t .moved, t .inside, some-size (r .kind))
+
+    pub refuses : (number place : ℕ) → s ≡ Refused number place → checkSays l ≡ refused number (place ∷ [])
+    unfolding Turn
+    refuses number place q = so-far .says ∙ rw q at turned
+
+    pub passes-all : s ≡ End → checkSays l ≡ done []
+    unfolding Turn
+    passes-all q = let t : Over (so-far .fuel) w l = rw q at turned in so-far .says ∙ t .says
+
+    pub gathers-all : s ≡ End → a ≡ foldl f first (records l)
+    unfolding Turn wholes
+    gathers-all q = let t : Over (so-far .fuel) w l = rw q at turned in sym (so-far .gathers ∙ rw (t .cuts) refl)
