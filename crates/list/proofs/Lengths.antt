@@ -1,13 +1,13 @@
--- The tests by which the code knows the lengths of a kind's parts agree with the table of kinds. Assumes nothing.
+-- The tests by which the code knows kinds agree with the table of kinds. Assumes nothing.
 use mathlib.Core.Path.{_≡_, refl, sym, _∙_, ap}
-use mathlib.Core.Bool.{Bool, true, false, cond, _||_, _&&_, and-false}
+use mathlib.Core.Bool.{Bool, true, false, cond, _||_, _&&_, not, and-false}
 use mathlib.Core.List.{List, [], _∷_}
 use Prim.Native.Nat.{ℕ, zero, suc, _+_, _≤_, _<_}
 use native.Mathlib.Omega.{arith}
 use borrow.Author.Tests.{eqb-true, eqb-false, ltb-true, ltb-false, lt-leb, lt-ltb, le-ltb, ne-eqb}
 use lib.Dec.{eqb, leb, ltb}
 use lib.ListN.{length, getD, List·getD-eq-default}
-use Rattle.list.specs.Kind.{Body, body, bodies, bodyOf, bodyLength, size, isKnown}
+use Rattle.list.specs.Kind.{Body, body, bodies, bodyOf, size, isForeign}
 
 and-left : (a b : Bool) → (a && b) ≡ true → a ≡ true
 and-left true b t = refl
@@ -19,7 +19,7 @@ and-right false true t = refl
 and-right false false t = t
 
 -- a test passes at each number below n
-everyBelow : ℕ → (ℕ → Bool) → Bool
+unfoldable pub everyBelow : ℕ → (ℕ → Bool) → Bool
 everyBelow zero test = true
 everyBelow (suc n) test = everyBelow n test && test n
 
@@ -32,61 +32,45 @@ below (suc n) test t k h = go (λ p. below n test p k) (eqb k n) refl
     go earlier true s = ap test (eqb-true k n s) ∙ and-right (everyBelow n test) (test n) t
     go earlier false s = earlier (and-left (everyBelow n test) (test n) t) (omega (arith, eqb-false k n s))
 
--- the lengths as the code tells them
-realmTold : ℕ → ℕ
-realmTold k = cond (eqb k 1 || (leb 9 k && leb k 11)) 16 0
+unfoldable pub bodyIs : Body → ℕ → Bool
+bodyIs b k = eqb (bodyOf k .realm) (b .realm) && (eqb (bodyOf k .id) (b .id) && eqb (bodyOf k .rights) (b .rights))
 
-idTold : ℕ → ℕ
-idTold k = cond (leb 7 k && leb k 10) 4 0
+is-body : (b : Body) (k : ℕ) → bodyIs b k ≡ true → bodyOf k ≡ b
+unfolding bodyIs
+is-body b k t =
+    let r = eqb-true (bodyOf k .realm) (b .realm) (and-left (eqb (bodyOf k .realm) (b .realm)) _ t) in
+    let u = and-right (eqb (bodyOf k .realm) (b .realm)) _ t in
+    let i = eqb-true (bodyOf k .id) (b .id) (and-left (eqb (bodyOf k .id) (b .id)) _ u) in
+    let g = eqb-true (bodyOf k .rights) (b .rights) (and-right (eqb (bodyOf k .id) (b .id)) _ u) in
+    λ j. record { realm = r j; id = i j; rights = g j }
 
-rightsTold : ℕ → ℕ
-rightsTold k = cond (leb 2 k && leb k 11) 1 0
+-- kinds from lo to hi that have one body, by a test over the table
+unfoldable pub among : ℕ → Body → ℕ → Bool
+among lo b k = ltb k lo || bodyIs b k
 
-beyond : (k : ℕ) → 12 ≤ k → bodyOf k ≡ body 0 0 0
+pub alike : (lo hi : ℕ) (b : Body) → everyBelow (suc hi) (among lo b) ≡ true → (k : ℕ) → lo ≤ k → k ≤ hi → bodyOf k ≡ b
+unfolding among
+alike lo hi b t k l h = is-body b k (rw (le-ltb k lo l) at (below (suc hi) (among lo b) t k (omega arith)))
+
+pub beyond : (k : ℕ) → 11 < k → bodyOf k ≡ body 0 0 0
 unfolding bodyOf bodies
 beyond k h = List·getD-eq-default bodies (body 0 0 0) h
 
--- what holds of each kind below 12, and of the body of none, holds of every kind
-by-table : (told : ℕ → ℕ) (want : Body → ℕ) → everyBelow 12 (λ k. eqb (told k) (want (bodyOf k))) ≡ true
-    → ((k : ℕ) → 12 ≤ k → told k ≡ want (body 0 0 0)) → (k : ℕ) → told k ≡ want (bodyOf k)
-by-table told want t far k = go (ltb k 12) refl
-  where
-    go : (b : Bool) → ltb k 12 ≡ b → told k ≡ want (bodyOf k)
-    go true h = eqb-true (told k) (want (bodyOf k)) (below 12 (λ k. eqb (told k) (want (bodyOf k))) t k (ltb-true k 12 h))
-    go false h = far k (ltb-false k 12 h) ∙ sym (ap want (beyond k (ltb-false k 12 h)))
+agree : (a b : Bool) → cond a b (not b) ≡ true → a ≡ b
+agree true b t = sym t
+agree false true t = t
+agree false false t = refl
 
-pub realm-told : (k : ℕ) → cond (eqb k 1 || (leb 9 k && leb k 11)) 16 0 ≡ bodyOf k .realm
-unfolding realmTold everyBelow bodyOf bodies body
-realm-told = by-table realmTold (λ b. b .realm) refl far
-  where
-    far : (k : ℕ) → 12 ≤ k → realmTold k ≡ 0
-    far k h = let n : k ≡ 1 → ⊥ = λ q. omega arith in let l : 11 < k = omega arith in simp (ne-eqb k 1 n, lt-leb k 11 l, and-false)
+foreignTold : ℕ → Bool
+foreignTold k = cond (leb 9 k && leb k 11) (isForeign k) (not (isForeign k))
 
-pub id-told : (k : ℕ) → cond (leb 7 k && leb k 10) 4 0 ≡ bodyOf k .id
-unfolding idTold everyBelow bodyOf bodies body
-id-told = by-table idTold (λ b. b .id) refl far
+pub foreign-told : (k : ℕ) → (leb 9 k && leb k 11) ≡ isForeign k
+unfolding foreignTold everyBelow isForeign bodyOf bodies body
+foreign-told k = go (ltb k 12) refl
   where
-    far : (k : ℕ) → 12 ≤ k → idTold k ≡ 0
-    far k h = let l : 10 < k = omega arith in simp (lt-leb k 10 l, and-false)
-
-pub rights-told : (k : ℕ) → cond (leb 2 k && leb k 11) 1 0 ≡ bodyOf k .rights
-unfolding rightsTold everyBelow bodyOf bodies body
-rights-told = by-table rightsTold (λ b. b .rights) refl far
-  where
-    far : (k : ℕ) → 12 ≤ k → rightsTold k ≡ 0
-    far k h = let l : 11 < k = omega arith in simp (lt-leb k 11 l, and-false)
-
--- a record's length tells whether its kind is known
-pub unknown-size : (k n : ℕ) → n ≡ size k → n ≡ 1 → isKnown k ≡ false
-unfolding size isKnown
-unknown-size k n q h = le-ltb 0 (bodyLength k) (omega arith)
-
-pub known-size : (k n : ℕ) → n ≡ size k → (n ≡ 1 → ⊥) → isKnown k ≡ true
-unfolding size isKnown
-known-size k n q h = lt-ltb 0 (bodyLength k) (omega (arith, ne))
-  where
-    ne : bodyLength k ≡ 0 → ⊥
-    ne z = h (omega arith)
+    go : (b : Bool) → ltb k 12 ≡ b → (leb 9 k && leb k 11) ≡ isForeign k
+    go true h = agree (leb 9 k && leb k 11) (isForeign k) (below 12 foreignTold refl k (ltb-true k 12 h))
+    go false h = let l : 11 < k = ltb-false k 12 h in simp (lt-leb k 11 l, and-false, beyond k l)
 
 pub some-size : (k : ℕ) → 0 < size k
 unfolding size

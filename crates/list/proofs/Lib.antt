@@ -1,3 +1,4 @@
 pub mod Lengths
 pub mod Tails
+pub mod Rising
 pub mod Runs

@@ -12,7 +12,7 @@ use lib.ListN.{length, getD, drop, length-drop, drop-of-length-le}
 use lib.Seq.{drop-drop}
 use Rattle.words.specs.Test.{if_then_else_, anyOf}
 use Rattle.words.specs.Said.{Said, done, refused, andThen}
-use Rattle.list.specs.Kind.{size, wantsMask}
+use Rattle.list.specs.Kind.{wantsMask}
 use Rattle.list.specs.Reading.{readOf}
 use Rattle.list.specs.Fault.{fault, lacksControl, endFault}
 use Rattle.list.specs.Walking.{unseen, seenAfter, startOf, walkAfter, refusedOr, onward, heard, begins, stepOf, Steps}
@@ -24,7 +24,6 @@ use Rattle.list.specs.declared.faults.Seen.{Seen}
 use Rattle.list.specs.declared.walk.Walk.{Walk}
 use Rattle.list.specs.declared.walk.Step.{Step}
 use Rattle.list.specs.declared.walk.Step.the-variants.{Next, Refused, End}
-use Rattle.list.proofs.Lengths.{some-size}
 use Rattle.list.proofs.Tails.{within-tail, empty}
 
 -- what was seen, and what the records to come have
@@ -74,8 +73,9 @@ restSays w l fs =
 record Onward (n : ℕ) (w : Walk) (l : List ℕ) (r : Record) (v : Walk) : Type 0 where
   fuel : ℕ
   enough : length l - v .at ≤ fuel
-  moved : v .at ≡ w .at + size (r .kind)
-  inside : w .at + size (r .kind) ≤ length l
+  some : 0 < r .size
+  moved : v .at ≡ w .at + r .size
+  inside : w .at + r .size ≤ length l
   cuts : rest n w l ≡ found (w .at) (Whole r) ∷ rest fuel v l
   says : restSays w l (rest n w l) ≡ restSays v l (rest fuel v l)
 
@@ -126,7 +126,7 @@ module _ (w : Walk) (l : List ℕ) (short : ltb 4096 (length l) ≡ false) (begu
 
     not-begin : eqb (next .at) 0 ≡ false
     unfolding next walkAfter
-    not-begin = ne-eqb (w .at + size (r .kind)) 0 (λ q. omega (arith, some-size (r .kind)))
+    not-begin = ne-eqb (w .at + r .size) 0 (λ q. omega (arith, within-tail (drop (w .at) l) r read))
 
     says-next : eqb (fault (w .home) (w .earlier) (Whole r)) 0 ≡ true → restSays w l (rest (suc m) w l) ≡ restSays next l (rest m next l)
     unfolding restSays faultsAfter refusedAt andThen passed found next walkAfter
@@ -136,10 +136,10 @@ module _ (w : Walk) (l : List ℕ) (short : ltb 4096 (length l) ≡ false) (begu
     unfolding next walkAfter
     passes h q =
         let s = within-tail (drop (w .at) l) r read in
-        let p = some-size (r .kind) in
         record {
           fuel = m;
           enough = omega (arith, length-drop (w .at) l);
+          some = s .0;
           moved = refl;
           inside = omega (arith, length-drop (w .at) l);
           cuts = cuts-whole;
@@ -203,13 +203,13 @@ module _ {A : Type 0} (f : A → Placed → A) where
         }
 
     -- the record lies within the list
-    pub inside : (r : Record) (v : Walk) → s ≡ Next r v → w .at + size (r .kind) ≤ length l
+    pub inside : (r : Record) (v : Walk) → s ≡ Next r v → w .at + r .size ≤ length l
     unfolding Turn
     inside r v q = let t : Onward (so-far .fuel) w l r v = rw q at turned in t .inside
 
     pub falls : (r : Record) (v : Walk) → s ≡ Next r v → length l - v .at < length l - w .at
     unfolding Turn
-    falls r v q = let t : Onward (so-far .fuel) w l r v = rw q at turned in omega (arith, t .moved, t .inside, some-size (r .kind))
+    falls r v q = let t : Onward (so-far .fuel) w l r v = rw q at turned in omega (arith, t .moved, t .some, t .inside)
 
     pub refuses : (number place : ℕ) → s ≡ Refused number place → checkSays l ≡ refused number (place ∷ [])
     unfolding Turn

@@ -5,13 +5,16 @@ use mathlib.Core.Bool.{Bool, true, false, not}
 use Prim.Native.Nat.{ℕ, _+_, _-_, _≤_, _<_}
 use native.Mathlib.Nat.{le-of-eq}
 use native.Mathlib.Omega.{arith}
-use borrow.Author.Tests.{ltb-false, eqb-true}
+use borrow.Author.Tests.{ltb-false, eqb-true, lt-ltb, le-ltb}
 use lib.Dec.{eqb, ltb}
 use lib.ListN.{length, getD, take, drop, length-drop}
 use lib.Seq.{take-all}
 use Rattle.words.specs.Test.{if_then_else_}
-use Rattle.list.specs.Kind.{isKnown, size}
-use Rattle.list.specs.Reading.{recordOf, readOf}
+use Rattle.words.specs.Number.{numberAt}
+use Rattle.words.specs.Realm.{zeroRealm, realmAt}
+use Rattle.list.specs.Kind.{body, bodyOf, bodyLength, isKnown, size}
+use Rattle.list.specs.Reading.{recordOf, readAs, readOf}
+use Rattle.list.proofs.Lengths.{some-size}
 use Rattle.list.specs.declared.records.Record.{Record}
 use Rattle.list.specs.declared.records.Read.{Read}
 use Rattle.list.specs.declared.records.Read.the-variants.{Nothing, Unknown, Short, Whole}
@@ -27,7 +30,7 @@ pub record Is (t : List ℕ) (r : Record) : Type 0 where
   pub same : recordOf (getD t 0 0) t ≡ r
 
 pub is : (t : List ℕ) (r : Record) → readOf t ≡ Whole r → Is t r
-unfolding readOf
+unfolding readOf readAs
 is t r = go (eqb (length t) 0) (isKnown (getD t 0 0)) (ltb (length t) (size (getD t 0 0))) refl refl
   where
     go : (a b c : Bool) → isKnown (getD t 0 0) ≡ b → ltb (length t) (size (getD t 0 0)) ≡ c
@@ -38,18 +41,17 @@ is t r = go (eqb (length t) 0) (isKnown (getD t 0 0)) (ltb (length t) (size (get
     go false true true h k q = let z : _≡_ {A = ℕ} 0 1 = cc in absurd (omega arith)
     go false true false h k q = record { known = h; enough = ltb-false (length t) (size (getD t 0 0)) k; same = cc }
 
--- its kind is the tail's first byte
-pub kind-is : (t : List ℕ) (r : Record) → Is t r → getD t 0 0 ≡ r .kind
+-- it has its kind's length, and ends within the tail
+pub sized : (t : List ℕ) (r : Record) → Is t r → r .size ≡ size (getD t 0 0)
 unfolding recordOf
-kind-is t r i = ap (λ (x : Record). x .kind) (i .same)
+sized t r i = sym (ap (λ (x : Record). x .size) (i .same))
 
--- it ends within the tail
-pub within-tail : (t : List ℕ) (r : Record) → readOf t ≡ Whole r → size (r .kind) ≤ length t
-within-tail t r q = let i = is t r q in rw (kind-is t r i) at (i .enough)
+pub within-tail : (t : List ℕ) (r : Record) → readOf t ≡ Whole r → (0 < r .size) × (r .size ≤ length t)
+within-tail t r q = let i = is t r q in let s = sized t r i in omega (arith, some-size (getD t 0 0), i .enough)
 
 -- only an empty tail has nothing to read
 pub empty : (t : List ℕ) → readOf t ≡ Nothing → length t ≡ 0
-unfolding readOf
+unfolding readOf readAs
 empty t = go (eqb (length t) 0) (isKnown (getD t 0 0)) (ltb (length t) (size (getD t 0 0))) refl
   where
     go : (a b c : Bool) → eqb (length t) 0 ≡ a
@@ -59,3 +61,32 @@ empty t = go (eqb (length t) 0) (isKnown (getD t 0 0)) (ltb (length t) (size (ge
     go false false c h q = let z : _≡_ {A = ℕ} 0 1 = cc in absurd (omega arith)
     go false true true h q = let z : _≡_ {A = ℕ} 0 1 = cc in absurd (omega arith)
     go false true false h q = let z : _≡_ {A = ℕ} 0 1 = cc in absurd (omega arith)
+
+-- what a tail of a kind is read as, by the lengths of its kind's parts
+pub no-body : (k : ℕ) (t : List ℕ) → bodyOf k ≡ body 0 0 0 → Unknown ≡ readAs k t
+unfolding readAs isKnown bodyLength body
+no-body k t q = simp q
+
+module _ (k : ℕ) (t : List ℕ) (realm id rights : ℕ) (q : bodyOf k ≡ body realm id rights) (some : 0 < realm + id + rights) where
+  size-is : size k ≡ 1 + realm + id + rights
+  unfolding size bodyLength body
+  size-is = rw q (omega arith)
+
+  known : isKnown k ≡ true
+  unfolding isKnown bodyLength body
+  known = rw q (lt-ltb 0 (realm + id + rights) some)
+
+  pub read-short : length t < 1 + realm + id + rights → Short ≡ readAs k t
+  unfolding readAs
+  read-short h = simp (known, size-is, lt-ltb (length t) (1 + realm + id + rights) h)
+
+  pub read-whole : 1 + realm + id + rights ≤ length t
+      → Whole (record {
+        kind = k;
+        realm = if eqb realm 0 then zeroRealm else realmAt 1 t;
+        id = if eqb id 0 then 0 else numberAt 4 (1 + realm) t;
+        rights = if eqb rights 0 then 0 else getD t (1 + realm + id) 0;
+        size = 1 + realm + id + rights;
+      }) ≡ readAs k t
+  unfolding readAs recordOf body
+  read-whole h = simp (known, size-is, le-ltb (length t) (1 + realm + id + rights) h, q)

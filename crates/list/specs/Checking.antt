@@ -9,7 +9,7 @@ use Rattle.words.specs.Test.{if_then_else_, anyOf}
 use Rattle.words.specs.Said.{Said, done, refused, andThen}
 use Rattle.words.specs.Realm.{realmAt}
 use Rattle.words.specs.declared.realm.Realm.{Realm}
-use Rattle.list.specs.Kind.{size, wantsMask}
+use Rattle.list.specs.Kind.{wantsMask}
 use Rattle.list.specs.Reading.{readOf}
 use Rattle.list.specs.Fault.{noRecord, fault, lacksControl, endFault}
 use Rattle.list.specs.Walking.{begins}
@@ -17,8 +17,8 @@ use Rattle.list.specs.declared.records.Record.{Record}
 use Rattle.list.specs.declared.records.Read.{Read}
 use Rattle.list.specs.declared.records.Read.the-variants.{Nothing, Unknown, Short, Whole}
 use Rattle.list.specs.declared.faults.Seen.{Seen}
-use Rattle.list.specs.declared.check.Verdict.{Verdict}
-use Rattle.list.specs.declared.check.Verdict.the-variants.{Fine, Refused}
+use Rattle.list.specs.declared.verdict.Verdict.{Verdict}
+use Rattle.list.specs.declared.verdict.Verdict.the-variants.{Fine, Refused}
 
 -- a place of a list and what is read there
 pub record Found : Type 0 where
@@ -38,7 +38,7 @@ following at (Whole r) rest = found at (Whole r) ∷ rest r
 -- a tail that begins at a place, record by record; the first number bounds how many they are
 unfoldable pub cutFrom : ℕ → ℕ → List ℕ → List Found
 cutFrom zero at tail = []
-cutFrom (suc n) at tail = following at (readOf tail) (λ r. cutFrom n (at + size (r .kind)) (drop (size (r .kind)) tail))
+cutFrom (suc n) at tail = following at (readOf tail) (λ r. cutFrom n (at + r .size) (drop (r .size) tail))
 
 -- a record has a byte at least, so there are no more of them than bytes
 unfoldable pub cut : List ℕ → List Found

@@ -14,7 +14,7 @@ use Rattle.list.specs.declared.faults.Seen.{Seen}
 
 -- what stands before the first record: a kind below all
 unfoldable pub noRecord : Record
-noRecord = record { kind = 0; realm = zeroRealm; id = 0; rights = 0 }
+noRecord = record { kind = 0; realm = zeroRealm; id = 0; rights = 0; size = 0 }
 
 -- strictly rising order of kind, then of body without its rights byte. Kind 1 stands once, whatever its realm
 unfoldable pub rises : Record → Record → Bool

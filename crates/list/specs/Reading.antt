@@ -13,23 +13,26 @@ use Rattle.list.specs.declared.records.Record.{Record}
 use Rattle.list.specs.declared.records.Read.{Read}
 use Rattle.list.specs.declared.records.Read.the-variants.{Nothing, Unknown, Short, Whole}
 
--- what a record of a kind says; what its kind has not is zero
+-- what a record of a kind says, and its length; what its kind has not is zero
 unfoldable pub recordOf : ℕ → List ℕ → Record
 recordOf kind tail = record {
   kind = kind;
   realm = if eqb (bodyOf kind .realm) 0 then zeroRealm else realmAt 1 tail;
   id = if eqb (bodyOf kind .id) 0 then 0 else numberAt 4 (1 + bodyOf kind .realm) tail;
   rights = if eqb (bodyOf kind .rights) 0 then 0 else getD tail (1 + bodyOf kind .realm + bodyOf kind .id) 0;
+  size = size kind;
 }
 
--- what stands at the head of a tail
-unfoldable pub readOf : List ℕ → Read
-readOf tail =
-    let kind = getD tail 0 0 in
-    if eqb (length tail) 0 then Nothing else
+-- a tail that begins with a kind
+unfoldable pub readAs : ℕ → List ℕ → Read
+readAs kind tail =
     if not (isKnown kind) then Unknown else
     if ltb (length tail) (size kind) then Short else
     Whole (recordOf kind tail)
+
+-- what stands at the head of a tail
+unfoldable pub readOf : List ℕ → Read
+readOf tail = if eqb (length tail) 0 then Nothing else readAs (getD tail 0 0) tail
 
 -- reading one record
 pub record ReadsRecord (tail : List ℕ) (r : Read) : Type 0 where

@@ -7,7 +7,7 @@ use lib.Dec.{eqb, ltb, leb}
 use lib.ListN.{length, getD, drop}
 use Rattle.words.specs.Test.{if_then_else_}
 use Rattle.words.specs.Realm.{realmAt}
-use Rattle.list.specs.Kind.{size, wantsMask}
+use Rattle.list.specs.Kind.{wantsMask}
 use Rattle.list.specs.Reading.{readOf}
 use Rattle.list.specs.Fault.{noRecord, fault, lacksControl, endFault}
 use Rattle.list.specs.declared.records.Record.{Record}
@@ -39,7 +39,7 @@ startOf list = record { at = 0; home = realmAt 1 list; earlier = noRecord; seen 
 
 unfoldable pub walkAfter : Walk → Record → Walk
 walkAfter walk r = record {
-  at = walk .at + size (r .kind);
+  at = walk .at + r .size;
   home = walk .home;
   earlier = r;
   seen = seenAfter (walk .seen) r;

@@ -1,11 +1,11 @@
 // What is wrong with a record after the one before it, and with a list after its last record.
+use crate::kind::ANY_OTHER;
 use crate::kind::DEFAULT_REALM;
 use crate::kind::GROUP_OBJ;
 use crate::kind::MASK_OBJ;
 use crate::kind::OTHER_OBJ;
 use crate::kind::USER_OBJ;
 use crate::kind::is_foreign;
-use crate::kind::wants_mask;
 use crate::records::Record;
 use crate::refusal::CONTROL_MISSING;
 use crate::refusal::FORBIDDEN_REALM;
@@ -16,6 +16,7 @@ use crate::refusal::RIGHTS_ABOVE_63;
 use words::realm::Realm;
 use words::realm::same_realm;
 ghost use mathlib.Core.Path.{_≡_};
+ghost use Prim.Native.Nat.{_<_};
 ghost use Rattle.list.specs.Fault.{rises, isForbidden, fault, lacksControl, endFault};
 ghost use Rattle.list.specs.Walking.{seenAfter};
 ghost use Rattle.list.specs.declared.records.Read.the-variants.{Whole};
@@ -36,11 +37,21 @@ pub struct Seen {
 fn in_order(earlier: Record, r: Record) -> bool
     ensures { λ b. ⌜ b ≡ rises earlier r ⌝ }
 {
+    if earlier.kind != r.kind {
+        return earlier.kind < r.kind;
+    }
+    if r.kind == DEFAULT_REALM {
+        return false;
+    }
     let a = earlier.realm;
     let b = r.realm;
-    let lo = (a.lo < b.lo) | ((a.lo == b.lo) & (earlier.id < r.id));
-    let hi = (a.hi < b.hi) | ((a.hi == b.hi) & lo);
-    (earlier.kind < r.kind) | ((earlier.kind == r.kind) & ((r.kind != DEFAULT_REALM) & hi))
+    if a.hi != b.hi {
+        return a.hi < b.hi;
+    }
+    if a.lo != b.lo {
+        return a.lo < b.lo;
+    }
+    earlier.id < r.id
 }
 
 fn is_forbidden(home: Realm, r: Record) -> bool
@@ -51,7 +62,13 @@ fn is_forbidden(home: Realm, r: Record) -> bool
         hi: 0xffff_fffe_0000_0000,
         lo: 0,
     };
-    same_realm(realm, unknown) | (is_foreign(r.kind) & same_realm(realm, home))
+    if same_realm(realm, unknown) {
+        return true;
+    }
+    if !is_foreign(r.kind) {
+        return false;
+    }
+    same_realm(realm, home)
 }
 
 // 14, 15 or 16; 0 where the record may stand after the earlier one.
@@ -76,8 +93,9 @@ fn lacks_control(r: Record) -> bool
     (r.kind == USER_OBJ) & (r.rights / 8 % 2 == 0)
 }
 
-// What is seen after one record more.
-pub(crate) fn seen_after(seen: Seen, r: Record) -> Seen
+// A record that wants no mask_obj is one of the objects, or the default realm.
+fn with_object(seen: Seen, r: Record) -> Seen
+    requires { ⌜ r .kind < 6 ⌝ }
     ensures { λ s. ⌜ s ≡ seenAfter seen r ⌝ }
 {
     let kind = r.kind;
@@ -86,8 +104,25 @@ pub(crate) fn seen_after(seen: Seen, r: Record) -> Seen
         group: seen.group | (kind == GROUP_OBJ),
         other: seen.other | (kind == OTHER_OBJ),
         mask: seen.mask | (kind == MASK_OBJ),
-        wanting: seen.wanting | wants_mask(kind),
+        wanting: seen.wanting,
         powerless: seen.powerless | lacks_control(r),
+    }
+}
+
+// What is seen after one record more.
+pub(crate) fn seen_after(seen: Seen, r: Record) -> Seen
+    ensures { λ s. ⌜ s ≡ seenAfter seen r ⌝ }
+{
+    if r.kind < ANY_OTHER {
+        return with_object(seen, r);
+    }
+    Seen {
+        user: seen.user,
+        group: seen.group,
+        other: seen.other,
+        mask: seen.mask,
+        wanting: true,
+        powerless: seen.powerless,
     }
 }
 

@@ -1,8 +1,6 @@
-// The kinds of records, and how long a record of a kind is.
+// The kinds of records.
 ghost use mathlib.Core.Path.{_≡_};
-ghost use mathlib.Core.Bool.{Bool};
-ghost use Prim.Native.Nat.{_≤_};
-ghost use Rattle.list.specs.Kind.{bodyOf, size, isForeign, wantsMask};
+ghost use Rattle.list.specs.Kind.{isForeign};
 
 pub const DEFAULT_REALM: u8 = 1;
 
@@ -26,53 +24,9 @@ pub const FOREIGN_GROUP: u8 = 10;
 
 pub const FOREIGN_OTHER: u8 = 11;
 
-pub(crate) fn realm_length(kind: u8) -> usize
-    ensures { λ r. ⌜ (r ≡ bodyOf kind .realm) × (r ≤ 16) ⌝ }
-{
-    if (kind == DEFAULT_REALM) | ((FOREIGN_USER <= kind) & (kind <= FOREIGN_OTHER)) {
-        16
-    } else {
-        0
-    }
-}
-
-pub(crate) fn id_length(kind: u8) -> usize
-    ensures { λ r. ⌜ (r ≡ bodyOf kind .id) × (r ≤ 4) ⌝ }
-{
-    if (USER <= kind) & (kind <= FOREIGN_GROUP) {
-        4
-    } else {
-        0
-    }
-}
-
-pub(crate) fn rights_length(kind: u8) -> usize
-    ensures { λ r. ⌜ (r ≡ bodyOf kind .rights) × (r ≤ 1) ⌝ }
-{
-    if (USER_OBJ <= kind) & (kind <= FOREIGN_OTHER) {
-        1
-    } else {
-        0
-    }
-}
-
-// A record's length, with its kind's byte; 1 where the kind is unknown.
-pub(crate) fn size_of(kind: u8) -> usize
-    ensures { λ r. ⌜ (r ≡ size kind) × (r ≤ 22) ⌝ }
-{
-    1 + realm_length(kind) + id_length(kind) + rights_length(kind)
-}
-
 // It names a realm other than the default one.
 pub(crate) fn is_foreign(kind: u8) -> bool
     ensures { λ r. ⌜ r ≡ isForeign kind ⌝ }
 {
-    (0 < realm_length(kind)) & (kind != DEFAULT_REALM)
-}
-
-// It wants a mask_obj in the list.
-pub(crate) fn wants_mask(kind: u8) -> bool
-    ensures { λ r. ⌜ r ≡ wantsMask kind ⌝ }
-{
-    ANY_OTHER <= kind
+    (FOREIGN_USER <= kind) & (kind <= FOREIGN_OTHER)
 }

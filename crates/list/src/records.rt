@@ -1,25 +1,30 @@
 // One record of an access list.
-use crate::kind::id_length;
-use crate::kind::realm_length;
-use crate::kind::rights_length;
-use crate::kind::size_of;
+use crate::kind::ANY_OTHER;
+use crate::kind::DEFAULT_REALM;
+use crate::kind::FOREIGN_GROUP;
+use crate::kind::FOREIGN_OTHER;
+use crate::kind::GROUP;
+use crate::kind::USER_OBJ;
 use words::number::number32;
 use words::realm::Realm;
 use words::realm::realm_at;
 ghost use mathlib.Core.Path.{_≡_};
+ghost use Prim.Native.Nat.{_+_, _≤_, _<_};
 ghost use lib.Dec.{eqb};
 ghost use lib.ListN.{getD};
 ghost use Rattle.words.specs.Test.{if_then_else_};
 ghost use Rattle.words.specs.Number.{numberAt};
 ghost use Rattle.words.specs.Realm.{zeroRealm, realmAt};
-ghost use Rattle.list.specs.Reading.{recordOf, ReadsRecord};
+ghost use Rattle.list.specs.Kind.{body, bodyOf};
+ghost use Rattle.list.specs.Reading.{readAs, ReadsRecord};
 
-// What a record says; what its kind has not is zero.
+// What a record says, and its length with the kind's byte; what its kind has not is zero.
 pub struct Record {
     pub kind: u8,
     pub realm: Realm,
     pub id: u32,
     pub rights: u8,
+    pub size: usize,
 }
 
 // What stands at the head of a tail.
@@ -63,20 +68,24 @@ fn rights_in(tail: &[u8], length: usize, at: usize) -> u8
     tail[at]
 }
 
-fn record_of(tail: &[u8], kind: u8) -> Record
-    ensures { λ r. ⌜ r ≡ recordOf kind (now (tail .entry)) ⌝ }
+// A record whose kind has a body of these lengths.
+fn read_as(tail: &[u8], kind: u8, realm: usize, id: usize, rights: usize) -> Read
+    requires { ⌜ (bodyOf kind ≡ body realm id rights) × (0 < realm + id + rights) × (realm + id + rights ≤ 21) ⌝ }
+    ensures { λ r. ⌜ r ≡ readAs kind (now (tail .entry)) ⌝ }
 {
-    let realm = realm_length(kind);
-    let id = id_length(kind);
-    let rights = rights_length(kind);
     let id_at = 1 + realm;
     let rights_at = id_at + id;
-    Record {
+    let size = rights_at + rights;
+    if tail.len() < size {
+        return Read::Short;
+    }
+    Read::Whole(Record {
         kind: kind,
         realm: realm_in(tail, realm),
         id: id_in(tail, id, id_at),
         rights: rights_in(tail, rights, rights_at),
-    }
+        size: size,
+    })
 }
 
 // The record that the tail begins with.
@@ -87,12 +96,23 @@ pub fn read_record(tail: &[u8]) -> Read
         return Read::Nothing;
     }
     let kind = tail[0];
-    let size = size_of(kind);
-    if size == 1 {
+    if kind < DEFAULT_REALM {
         return Read::Unknown;
     }
-    if tail.len() < size {
-        return Read::Short;
+    if kind < USER_OBJ {
+        return read_as(tail, kind, 16, 0, 0);
     }
-    Read::Whole(record_of(tail, kind))
+    if kind <= ANY_OTHER {
+        return read_as(tail, kind, 0, 0, 1);
+    }
+    if kind <= GROUP {
+        return read_as(tail, kind, 0, 4, 1);
+    }
+    if kind <= FOREIGN_GROUP {
+        return read_as(tail, kind, 16, 4, 1);
+    }
+    if kind <= FOREIGN_OTHER {
+        return read_as(tail, kind, 16, 0, 1);
+    }
+    Read::Unknown
 }

@@ -4,7 +4,6 @@ use crate::faults::end_fault;
 use crate::faults::fault_of;
 use crate::faults::seen_after;
 use crate::kind::DEFAULT_REALM;
-use crate::kind::size_of;
 use crate::records::Read;
 use crate::records::Record;
 use crate::records::read_record;
@@ -15,10 +14,10 @@ use crate::refusal::UNKNOWN_KIND;
 use words::realm::Realm;
 use words::realm::realm_at;
 ghost use mathlib.Core.Path.{_≡_};
-ghost use mathlib.Core.Bool.{Bool};
+ghost use mathlib.Core.Bool.{not, _&&_};
 ghost use Prim.Native.Nat.{_+_, _<_, _^_};
+ghost use lib.Dec.{eqb};
 ghost use lib.ListN.{length};
-ghost use Rattle.list.specs.Kind.{size};
 ghost use Rattle.list.specs.Reading.{readOf};
 ghost use Rattle.list.specs.Fault.{endFault};
 ghost use Rattle.list.specs.Walking.{walkAfter, refusedOr, heard, begins, Starts, Steps};
@@ -41,13 +40,17 @@ pub enum Step {
     End,
 }
 
-fn begins_list(list: &[u8]) -> bool
-    ensures { λ r. ⌜ r ≡ begins (now (list .entry)) ⌝ }
+// At the beginning of a list that does not begin with kind 1.
+fn is_unbegun(at: usize, list: &[u8]) -> bool
+    ensures { λ r. ⌜ r ≡ (eqb at 0 && not (begins (now (list .entry)))) ⌝ }
 {
-    if list.len() == 0 {
+    if at != 0 {
         return false;
     }
-    list[0] == DEFAULT_REALM
+    if list.len() == 0 {
+        return true;
+    }
+    list[0] != DEFAULT_REALM
 }
 
 impl Walk {
@@ -60,6 +63,7 @@ impl Walk {
             realm: Realm { hi: 0, lo: 0 },
             id: 0,
             rights: 0,
+            size: 0,
         };
         let unseen = Seen {
             user: false,
@@ -78,13 +82,13 @@ impl Walk {
     }
 
     fn after(self, r: Record) -> Walk
-        requires { ⌜ self .at + size (r .kind) < 2 ^ 64 ⌝ }
+        requires { ⌜ self .at + r .size < 2 ^ 64 ⌝ }
         ensures { λ w. ⌜ w ≡ walkAfter self r ⌝ }
     {
         let seen = self.seen;
         let home = self.home;
         Walk {
-            at: self.at + size_of(r.kind),
+            at: self.at + r.size,
             home: home,
             earlier: r,
             seen: seen_after(seen, r),
@@ -93,7 +97,7 @@ impl Walk {
 
     // A whole record at the walk's place.
     fn take(self, r: Record) -> Step
-        requires { ⌜ self .at + size (r .kind) < 2 ^ 64 ⌝ }
+        requires { ⌜ self .at + r .size < 2 ^ 64 ⌝ }
         ensures { λ s. ⌜ s ≡ heard self (Whole r) ⌝ }
     {
         let home = self.home;
@@ -154,7 +158,7 @@ impl Walk {
                 place: 0,
             };
         }
-        if (at == 0) & !begins_list(list) {
+        if is_unbegun(at, list) {
             return Step::Refused {
                 number: NO_DEFAULT_REALM,
                 place: 0,

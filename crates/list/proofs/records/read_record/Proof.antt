@@ -1,19 +1,31 @@
-use Rattle.list.proofs.Lengths.{unknown-size, known-size}
+use Rattle.list.proofs.Tails.{no-body}
+use Rattle.list.proofs.Lengths.{everyBelow, bodyIs, among, alike, beyond}
 use Rattle.list.specs.Reading.{readOf}
-use borrow.Author.Tests.{eq-eqb, ne-eqb, lt-ltb, le-ltb}
+use Rattle.list.specs.Kind.{body, bodies, bodyOf}
+use lib.ListN.{getD}
+use mathlib.Core.Path.{refl}
+use borrow.Author.Tests.{eq-eqb, ne-eqb}
+use native.Mathlib.Omega.{arith}
 use borrow.Author.Needs.{needs}
 use Rattle.list.proofs.records.read_record.Statement.{statement}
 use Rattle.list.proofs.records.read_record.Tie as tie
 
 pub read-record-spec : {M : Type 1} → statement M
-unfolding readOf
+unfolding readOf everyBelow bodyIs among bodyOf bodies body
 read-record-spec =
     tie.close
     (tie.spec
     (λ c. record { answer = simp (eq-eqb _ _ (c .if1 .taken)) })
     (λ c. search needs)
-    (λ c κs. search needs)
-    (λ c. record { answer = simp (ne-eqb _ _ (c .before .before .before .if1 .left), unknown-size _ _ (c .before .size-of .ensures .0) (c .if2 .taken)) })
-    (λ c. record { answer = simp (ne-eqb _ _ (c .before .before .before .before .if1 .left), known-size _ _ (c .before .before .size-of .ensures .0) (c .before .if2 .left), ← c .before .before .size-of .ensures .0, lt-ltb _ _ (c .if3 .taken)) })
-    (λ c κs. search needs)
-    (λ c. record { answer = simp (ne-eqb _ _ (c .before .before .before .before .before .if1 .left), known-size _ _ (c .before .before .before .size-of .ensures .0) (c .before .before .if2 .left), ← c .before .before .before .size-of .ensures .0, le-ltb _ _ (c .before .if3 .left), c .record-of .ensures) }))
+    (λ c. record { answer = simp (ne-eqb _ _ (c .before .before .if1 .left)) (no-body _ _ (alike 0 0 (body 0 0 0) refl (getD (c .before .before .before .before .args .tail .now) 0 0) (omega arith) (omega arith))) })
+    (λ c κs. (alike 1 1 (body 16 0 0) refl (getD (c .before .before .before .before .before .args .tail .now) 0 0) (omega arith) (omega arith), search needs, search needs))
+    (λ c. record { answer = simp (ne-eqb _ _ (c .before .before .before .before .if1 .left), c .read-as .ensures) })
+    (λ c κs. (alike 2 6 (body 0 0 1) refl (getD (c .before .before .before .before .before .before .args .tail .now) 0 0) (omega arith) (omega arith), search needs, search needs))
+    (λ c. record { answer = simp (ne-eqb _ _ (c .before .before .before .before .before .if1 .left), c .read-as2 .ensures) })
+    (λ c κs. (alike 7 8 (body 0 4 1) refl (getD (c .before .before .before .before .before .before .before .args .tail .now) 0 0) (omega arith) (omega arith), search needs, search needs))
+    (λ c. record { answer = simp (ne-eqb _ _ (c .before .before .before .before .before .before .if1 .left), c .read-as3 .ensures) })
+    (λ c κs. (alike 9 10 (body 16 4 1) refl (getD (c .before .before .before .before .before .before .before .before .args .tail .now) 0 0) (omega arith) (omega arith), search needs, search needs))
+    (λ c. record { answer = simp (ne-eqb _ _ (c .before .before .before .before .before .before .before .if1 .left), c .read-as4 .ensures) })
+    (λ c κs. (alike 11 11 (body 16 0 1) refl (getD (c .before .before .before .before .before .before .before .before .before .args .tail .now) 0 0) (omega arith) (omega arith), search needs, search needs))
+    (λ c. record { answer = simp (ne-eqb _ _ (c .before .before .before .before .before .before .before .before .if1 .left), c .read-as5 .ensures) })
+    (λ c. record { answer = simp (ne-eqb _ _ (c .before .before .before .before .before .before .before .if1 .left)) (no-body _ _ (beyond _ (c .if7 .left))) }))

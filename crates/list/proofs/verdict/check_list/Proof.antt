@@ -4,8 +4,8 @@ use borrow.Author.Needs.{needs}
 use lib.ListN.{length}
 use Rattle.list.specs.Checking.{Placed, verdictSays}
 use Rattle.list.proofs.Runs
-use Rattle.list.proofs.check.check_list.Statement.{statement}
-use Rattle.list.proofs.check.check_list.Tie as tie
+use Rattle.list.proofs.verdict.check_list.Statement.{statement}
+use Rattle.list.proofs.verdict.check_list.Tie as tie
 
 -- nothing is gathered
 abbrev keep : Unit {0} → Placed → Unit {0}
