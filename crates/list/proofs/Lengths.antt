@@ -7,16 +7,8 @@ use native.Mathlib.Omega.{arith}
 use borrow.Author.Tests.{eqb-true, eqb-false, ltb-true, ltb-false, lt-leb, lt-ltb, le-ltb, ne-eqb}
 use lib.Dec.{eqb, leb, ltb}
 use lib.ListN.{length, getD, List·getD-eq-default}
+use Rattle.words.proofs.Tests.{and-left, and-right}
 use Rattle.list.specs.Kind.{Body, body, bodies, bodyOf, size, isForeign}
-
-and-left : (a b : Bool) → (a && b) ≡ true → a ≡ true
-and-left true b t = refl
-and-left false b t = t
-
-and-right : (a b : Bool) → (a && b) ≡ true → b ≡ true
-and-right true b t = t
-and-right false true t = refl
-and-right false false t = t
 
 -- a test passes at each number below n
 unfoldable pub everyBelow : ℕ → (ℕ → Bool) → Bool
@@ -55,6 +47,15 @@ alike lo hi b t k l h = is-body b k (rw (le-ltb k lo l) at (below (suc hi) (amon
 pub beyond : (k : ℕ) → 11 < k → bodyOf k ≡ body 0 0 0
 unfolding bodyOf bodies
 beyond k h = List·getD-eq-default bodies (body 0 0 0) h
+
+-- what holds of every body of the table, and of none, holds of every kind's
+pub everywhere : (test : Body → Bool) → everyBelow 12 (λ k. test (bodyOf k)) ≡ true → test (body 0 0 0) ≡ true
+    → (k : ℕ) → test (bodyOf k) ≡ true
+everywhere test t none k = go (ltb k 12) refl
+  where
+    go : (b : Bool) → ltb k 12 ≡ b → test (bodyOf k) ≡ true
+    go true h = below 12 (λ k. test (bodyOf k)) t k (ltb-true k 12 h)
+    go false h = rw (beyond k (ltb-false k 12 h)) none
 
 agree : (a b : Bool) → cond a b (not b) ≡ true → a ≡ b
 agree true b t = sym t

@@ -14,10 +14,10 @@ use Rattle.list.specs.Walking.{seenAfter}
 use Rattle.list.specs.declared.records.Record.{Record}
 use Rattle.list.specs.declared.faults.Seen.{Seen}
 
-apart : (a b : ℕ) (lower : Bool) → (a ≡ b → ⊥) → less a b lower ≡ ltb a b
+pub apart : (a b : ℕ) (lower : Bool) → (a ≡ b → ⊥) → less a b lower ≡ ltb a b
 apart a b lower n = simp (ne-eqb a b n, or-false)
 
-tied : (a b : ℕ) (lower : Bool) → a ≡ b → less a b lower ≡ lower
+pub tied : (a b : ℕ) (lower : Bool) → a ≡ b → less a b lower ≡ lower
 tied a b lower e = simp (eq-eqb a b e, le-ltb a b (le-of-eq (sym e)))
 
 module _ (p e : Record) where

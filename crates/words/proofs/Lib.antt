@@ -1,3 +1,5 @@
+pub mod Tests
+pub mod Lines
 pub mod Digits
 pub mod Order
 pub mod Determined

@@ -1,16 +1,18 @@
 -- Comparing numbers is comparing their bytes. Assumes nothing.
 use mathlib.Core.Path.{_≡_, refl, sym, _∙_, ap}
-use mathlib.Core.List.{List, [], _∷_, _++_}
+use mathlib.Core.List.{List, [], _∷_, _++_, append-assoc}
 use mathlib.Core.Bool.{Bool, true, false, _||_, _&&_, and-true}
 use Prim.Native.Nat.{ℕ, zero, suc, _+_, _*_, _/_, _%_, _^_, _≤_, _<_}
 use native.Mathlib.Omega.{arith}
-use borrow.Author.Tests.{ltb-true, ltb-false, eqb-true, eqb-false, lt-ltb, le-ltb, eq-eqb, ne-eqb}
+use borrow.Author.Tests.{ltb-true, ltb-false, eqb-true, eqb-false, lt-ltb, le-ltb, le-leb, eq-eqb, ne-eqb}
 use lib.Arith.{digits-lt, digits-div, digits-mod}
 use lib.Dec.{ltb, eqb}
-use lib.ListN.{length}
-use Rattle.words.specs.Number.{Bytes, numberFrom, number, part, within, less, before}
+use lib.ListN.{length, take, drop}
+use lib.Seq.{take-at, drop-at}
+use Rattle.words.specs.Number.{Bytes, numberFrom, number, part, within, numberAt, less, before}
 use Rattle.words.specs.Realm.{realmAt, sameRealm, lessRealm}
 use Rattle.words.specs.declared.realm.Realm.{Realm}
+use Rattle.words.proofs.Tests.{and-left, and-right}
 use Rattle.words.proofs.Digits.{first, bounded, part-length, part-bytes, part-add}
 
 -- `less` by what is known of its numbers
@@ -93,3 +95,50 @@ module _ (t u : List ℕ) (ht : Bytes t) (hu : Bytes u) where
   parts m n us vs r lt lu e =
       numbers (part m n t) (part m n u) us vs (part-length m n t lt ∙ sym (part-length m n u lu)) (part-bytes m n t ht) (part-bytes m n u hu)
       ∙ ap (λ (b : Bool). less (number (part m n t)) (number (part m n u)) b) e
+
+both : (a b c d : ℕ) → (eqb a b && eqb c d) ≡ true → (a ≡ b) × (c ≡ d)
+both a b c d q = (eqb-true a b (and-left (eqb a b) (eqb c d) q), eqb-true c d (and-right (eqb a b) (eqb c d) q))
+
+-- a number, where its bytes are all there
+pub number-at : (width at : ℕ) (t : List ℕ) → at + width ≤ length t → numberAt width at t ≡ number (part at width t)
+unfolding numberAt within
+number-at width at t h = simp (le-leb (at + width) (length t) h)
+
+realm-at : (at : ℕ) (t : List ℕ) → at + 16 ≤ length t → realmAt at t ≡ record { hi = number (part at 8 t); lo = number (part (at + 8) 8 t) }
+unfolding realmAt within
+realm-at at t h = simp (le-leb (at + 16) (length t) h)
+
+sixteen : (at : ℕ) (t us : List ℕ) → part at 16 t ++ us ≡ part at 8 t ++ (part (at + 8) 8 t ++ us)
+sixteen at t us = rw (part-add at 8 8 t, append-assoc)
+
+module _ (t u : List ℕ) (ht : Bytes t) (hu : Bytes u) where
+  -- realms that are compared first are compared as their sixteen bytes
+  pub realms : (at : ℕ) (us vs : List ℕ) (r : Bool) → at + 16 ≤ length t → at + 16 ≤ length u → before us vs ≡ r
+      → before (part at 16 t ++ us) (part at 16 u ++ vs) ≡ lessRealm (realmAt at t) (realmAt at u) r
+  unfolding lessRealm
+  realms at us vs r lt lu e =
+      rw (sixteen at t us, sixteen at u vs, realm-at at t lt, realm-at at u lu)
+      (parts t u ht hu at 8 _ _ _ (omega arith) (omega arith) (parts t u ht hu (at + 8) 8 us vs r (omega arith) (omega arith) e))
+
+  eight : (m n : ℕ) → m + 8 ≤ length t → n + 8 ≤ length u → number (part m 8 t) ≡ number (part n 8 u) → part m 8 t ≡ part n 8 u
+  eight m n lt lu =
+      spelled (part m 8 t) (part n 8 u) (part-length m 8 t lt ∙ sym (part-length n 8 u lu)) (part-bytes m 8 t ht) (part-bytes n 8 u hu)
+
+  -- two realms are the same exactly when their sixteen bytes are
+  module _ (m n : ℕ) (lt : m + 16 ≤ length t) (lu : n + 16 ≤ length u) where
+    pub same-bytes : sameRealm (realmAt m t) (realmAt n u) ≡ true → part m 16 t ≡ part n 16 u
+    unfolding sameRealm
+    same-bytes q =
+        let s = rw (realm-at m t lt, realm-at n u lu) at q in
+        let e = both (number (part m 8 t)) (number (part n 8 u)) (number (part (m + 8) 8 t)) (number (part (n + 8) 8 u)) s in
+        rw (part-add m 8 8 t, part-add n 8 8 u, eight m n (omega arith) (omega arith) (e .0), eight (m + 8) (n + 8) (omega arith) (omega arith) (e .1))
+
+    pub same-realms : part m 16 t ≡ part n 16 u → sameRealm (realmAt m t) (realmAt n u) ≡ true
+    unfolding sameRealm
+    same-realms q =
+        let a = part-length m 8 t (omega arith) in
+        let b = part-length n 8 u (omega arith) in
+        let s = sym (part-add m 8 8 t) ∙ q ∙ part-add n 8 8 u in
+        let hi : part m 8 t ≡ part n 8 u = sym (take-at (part m 8 t) (part (m + 8) 8 t) 8 a) ∙ ap (take 8) s ∙ take-at (part n 8 u) (part (n + 8) 8 u) 8 b in
+        let lo : part (m + 8) 8 t ≡ part (n + 8) 8 u = sym (drop-at (part m 8 t) (part (m + 8) 8 t) 8 a) ∙ ap (drop 8) s ∙ drop-at (part n 8 u) (part (n + 8) 8 u) 8 b in
+        rw (realm-at m t lt, realm-at n u lu, hi, lo, eq-eqb (number (part n 8 u)) (number (part n 8 u)) refl, eq-eqb (number (part (n + 8) 8 u)) (number (part (n + 8) 8 u)) refl)

@@ -1,4 +1,5 @@
 pub mod Test
 pub mod Said
+pub mod Lines
 pub mod Number
 pub mod Realm

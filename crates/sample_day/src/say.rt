@@ -1,0 +1,40 @@
+// What is written of a case: its name, then the answer.
+use crate::draft::Draft;
+use libc::STDOUT_FILENO;
+use list::verdict::Verdict;
+use list::verdict::check_list;
+
+pub fn text(words: &[u8]) {
+    io::write_all(STDOUT_FILENO, words);
+}
+
+pub fn number(n: u64) {
+    io::print_decimal(STDOUT_FILENO, n);
+}
+
+fn refused(number_: u8, place: usize) {
+    text(b"refused ");
+    number(number_ as u64);
+    text(b" at ");
+    number(place as u64);
+    text(b"\n");
+}
+
+// What the check says of the first n bytes.
+pub fn check_first(name: &[u8], list: &[u8], n: usize) {
+    if list.len() < n {
+        return;
+    }
+    text(name);
+    text(b": ");
+    match check_list(&list[0..n]) {
+        Verdict::Fine => text(b"done\n"),
+        Verdict::Refused { number, place } => refused(number, place),
+    }
+}
+
+pub fn check(name: &[u8], list: Draft) {
+    let bytes = list.bytes;
+    let n = list.len;
+    check_first(name, &bytes, n);
+}
