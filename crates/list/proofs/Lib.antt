@@ -5,4 +5,5 @@ pub mod Runs
 pub mod Enough
 pub mod Bytewise
 pub mod Determined
+pub mod Opened
 pub mod Day

@@ -14,8 +14,8 @@ use Rattle.words.specs.Test.{if_then_else_, anyOf}
 use Rattle.words.specs.Said.{Said, done, refused, andThen}
 use Rattle.list.specs.Kind.{wantsMask}
 use Rattle.list.specs.Reading.{readOf}
-use Rattle.list.specs.Fault.{fault, lacksControl, endFault}
-use Rattle.list.specs.Walking.{unseen, seenAfter, startOf, walkAfter, refusedOr, onward, heard, begins, stepOf, Steps}
+use Rattle.list.specs.Fault.{begins, fault, lacksControl, endFault}
+use Rattle.list.specs.Walking.{unseen, seenAfter, startOf, walkAfter, refusedOr, onward, heard, stepOf, Steps}
 use Rattle.list.specs.Checking.{Found, found, following, cutFrom, cut, Placed, placed, withWhole, wholes, records, refusedAt, passed, faultsAfter, has, seenIn, checkSays}
 use Rattle.list.specs.declared.records.Record.{Record}
 use Rattle.list.specs.declared.records.Read.{Read}

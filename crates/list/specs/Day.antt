@@ -62,7 +62,7 @@ ours =
     ∷ refusedWith 15 31 (listE ++ (7 ∷ 0 ∷ 0 ∷ 0 ∷ 7 ∷ 0 ∷ []))
     -- ids rise as numbers
     ∷ fine (headerR ++ (objects ++ (8 ∷ 0 ∷ 0 ∷ 0 ∷ 255 ∷ 1 ∷ 8 ∷ 0 ∷ 0 ∷ 1 ∷ 0 ∷ 1 ∷ [])))
-    -- a second default realm, also with the unknown realm, also after the first
+    -- a second default realm, also an unknown one; cut short it is 13
     ∷ refusedWith 15 17 (headerR ++ (1 ∷ replicate 16 18))
     ∷ refusedWith 15 17 (headerR ++ (1 ∷ unknownBytes))
     ∷ refusedWith 13 17 (headerR ++ (1 ∷ 18 ∷ []))

@@ -1,7 +1,9 @@
--- Refusals 12 to 16 of one record, by the default realm and the record before it; refusals 17 to 19 of all of them.
+-- Refusal 11 of a list, refusals 12 to 16 of one record by the default realm and the record before it, refusals 17 to 19 of all of them.
 use mathlib.Core.Bool.{Bool, not, _||_, _&&_}
+use mathlib.Core.List.{List}
 use Prim.Native.Nat.{ℕ, _/_, _%_}
 use lib.Dec.{eqb, ltb}
+use lib.ListN.{getD}
 use Rattle.words.specs.Test.{if_then_else_}
 use Rattle.words.specs.Number.{less}
 use Rattle.words.specs.Realm.{zeroRealm, unknownRealm, sameRealm, lessRealm}
@@ -11,6 +13,10 @@ use Rattle.list.specs.declared.records.Record.{Record}
 use Rattle.list.specs.declared.records.Read.{Read}
 use Rattle.list.specs.declared.records.Read.the-variants.{Nothing, Unknown, Short, Whole}
 use Rattle.list.specs.declared.faults.Seen.{Seen}
+
+-- a list begins with kind 1
+unfoldable pub begins : List ℕ → Bool
+begins list = eqb (getD list 0 0) 1
 
 -- what stands before the first record: a kind below all
 unfoldable pub noRecord : Record

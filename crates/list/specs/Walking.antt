@@ -4,12 +4,12 @@ use mathlib.Core.Bool.{Bool, false, not, _||_, _&&_}
 use mathlib.Core.List.{List}
 use Prim.Native.Nat.{ℕ, _+_}
 use lib.Dec.{eqb, ltb, leb}
-use lib.ListN.{length, getD, drop}
+use lib.ListN.{length, drop}
 use Rattle.words.specs.Test.{if_then_else_}
 use Rattle.words.specs.Realm.{realmAt}
 use Rattle.list.specs.Kind.{wantsMask}
 use Rattle.list.specs.Reading.{readOf}
-use Rattle.list.specs.Fault.{noRecord, fault, lacksControl, endFault}
+use Rattle.list.specs.Fault.{begins, noRecord, fault, lacksControl, endFault}
 use Rattle.list.specs.declared.records.Record.{Record}
 use Rattle.list.specs.declared.records.Read.{Read}
 use Rattle.list.specs.declared.records.Read.the-variants.{Nothing, Unknown, Short, Whole}
@@ -58,10 +58,6 @@ onward walk (Whole r) = Next r (walkAfter walk r)
 -- what is read at the walk's place
 unfoldable pub heard : Walk → Read → Step
 heard walk read = refusedOr (fault (walk .home) (walk .earlier) read) (walk .at) (onward walk read)
-
--- a list begins with kind 1
-unfoldable pub begins : List ℕ → Bool
-begins list = eqb (getD list 0 0) 1
 
 unfoldable pub stepOf : Walk → List ℕ → Step
 stepOf walk list =

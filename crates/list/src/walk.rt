@@ -19,8 +19,8 @@ ghost use Prim.Native.Nat.{_+_, _<_, _^_};
 ghost use lib.Dec.{eqb};
 ghost use lib.ListN.{length};
 ghost use Rattle.list.specs.Reading.{readOf};
-ghost use Rattle.list.specs.Fault.{endFault};
-ghost use Rattle.list.specs.Walking.{walkAfter, refusedOr, heard, begins, Starts, Steps};
+ghost use Rattle.list.specs.Fault.{begins, endFault};
+ghost use Rattle.list.specs.Walking.{walkAfter, refusedOr, heard, Starts, Steps};
 ghost use Rattle.list.specs.declared.records.Read.the-variants.{Whole};
 ghost use Rattle.list.specs.declared.walk.Step.the-variants.{End};
 

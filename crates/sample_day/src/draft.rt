@@ -16,13 +16,14 @@ pub fn headed(realm: u8) -> Draft {
     empty().byte(1).sixteen(realm)
 }
 
-// The head of list E: realm R and the four objects.
+// Realm R and what every list has: user_obj, group_obj, other_obj.
+pub fn plain() -> Draft {
+    headed(17).object(2, 15).object(3, 5).object(4, 4)
+}
+
+// The same with mask_obj.
 pub fn objects() -> Draft {
-    headed(17)
-        .object(2, 15)
-        .object(3, 5)
-        .object(4, 4)
-        .object(5, 3)
+    plain().object(5, 3)
 }
 
 pub fn list_e() -> Draft {

@@ -3,6 +3,7 @@ use crate::draft::empty;
 use crate::draft::headed;
 use crate::draft::list_e;
 use crate::draft::objects;
+use crate::draft::plain;
 use crate::say::check;
 use crate::say::check_first;
 use crate::say::number;
@@ -14,15 +15,11 @@ use list::walk::Walk;
 pub fn paper() {
     check(b"list E", list_e());
     check(b"E without its last byte", list_e().cut());
-    check(
-        b"E without 5 3",
-        headed(17)
-            .object(2, 15)
-            .object(3, 5)
-            .object(4, 4)
-            .named(7, 7, 7),
-    );
+    check(b"E without 5 3", plain().named(7, 7, 7));
     check(b"empty", empty());
+}
+
+pub fn paper_unstarred() {
     check(b"header alone", headed(17));
     check(
         b"user_obj 7",
@@ -81,14 +78,21 @@ fn records_of_first(list: &[u8], n: usize) {
     }
 }
 
-// 11, 12 and 13.
-pub fn beginnings() {
+// 11 and 12.
+pub fn first_kinds() {
     check(b"first kind 0", empty().byte(0));
     check(b"first kind 200", empty().byte(200));
     check(b"a lone 1", empty().byte(1));
+}
+
+pub fn unknown_kinds() {
     check(b"kind 12 after E", list_e().byte(12));
     check(b"kind 0 after E", list_e().byte(0));
     check(b"kind 255 after E", list_e().byte(255));
+}
+
+// 13.
+pub fn short_bodies() {
     check(b"kind 7 cut after its kind", list_e().byte(7));
     check(
         b"a last record that just fits",
@@ -97,14 +101,22 @@ pub fn beginnings() {
     check(b"the same cut short", list_e().foreign_other(18, 1).cut());
 }
 
-// 14 and 15.
-pub fn orders() {
+// 14, and 14 before 15.
+pub fn high_rights() {
     check(b"rights 63", objects().named(8, 1, 63));
     check(b"rights 64", objects().named(8, 1, 64));
     check(b"rights 64 out of order", objects().object(4, 64));
+}
+
+// 15.
+pub fn orders() {
     check(b"user 7 twice", list_e().named(7, 7, 0));
     check(b"user 6 after user 7", list_e().named(7, 6, 0));
     check(b"group 6 after user 7", list_e().named(8, 6, 0));
+    check(b"mask_obj twice", objects().object(5, 3));
+}
+
+pub fn orders_of_ids() {
     check(
         b"group 255, group 256",
         objects().named(8, 255, 1).named(8, 256, 1),
@@ -113,10 +125,9 @@ pub fn orders() {
         b"group 256, group 255",
         objects().named(8, 256, 1).named(8, 255, 1),
     );
-    check(b"mask_obj twice", objects().object(5, 3));
 }
 
-pub fn foreign_orders() {
+pub fn orders_of_realms() {
     check(
         b"realms before ids",
         objects().foreign(9, 18, 9, 1).foreign(9, 19, 2, 1),
@@ -135,10 +146,8 @@ pub fn foreign_orders() {
     );
 }
 
-// 16, and kind 1 a second time.
-pub fn realms() {
-    check(b"an unknown default realm", empty().byte(1).unknown_realm());
-    check(b"a zero default realm", headed(0).object(2, 15));
+// Kind 1 a second time: 15 whatever its realm, 13 where it is cut short.
+pub fn second_realms() {
     check(b"a second default realm", headed(17).byte(1).sixteen(18));
     check(b"the same realm again", headed(17).byte(1).sixteen(17));
     check(
@@ -149,6 +158,15 @@ pub fn realms() {
         b"a second realm cut short",
         headed(17).byte(1).sixteen(18).cut(),
     );
+}
+
+// 16.
+pub fn default_realms() {
+    check(b"an unknown default realm", empty().byte(1).unknown_realm());
+    check(b"a zero default realm", headed(0).object(2, 15));
+}
+
+pub fn foreign_at_home() {
     check(
         b"foreign_user of the default realm",
         objects().foreign(9, 17, 1, 1),
@@ -166,14 +184,7 @@ pub fn realms() {
 pub fn unknown_realms() {
     check(
         b"foreign_user of the unknown realm",
-        objects()
-            .byte(9)
-            .unknown_realm()
-            .byte(0)
-            .byte(0)
-            .byte(0)
-            .byte(1)
-            .byte(1),
+        objects().byte(9).unknown_realm().byte(0).sixteen(0),
     );
     check(
         b"foreign_other of the unknown realm",
@@ -185,27 +196,21 @@ pub fn unknown_realms() {
     );
 }
 
-// 17, 18 and 19.
-pub fn endings() {
+// 17.
+pub fn missing_objects() {
     check(b"no user_obj", headed(17).object(3, 5).object(4, 4));
     check(b"no group_obj", headed(17).object(2, 15).object(4, 4));
     check(b"no other_obj", headed(17).object(2, 15).object(3, 5));
     check(
-        b"no mask_obj, none wanted",
-        headed(17).object(2, 8).object(3, 0).object(4, 0),
-    );
-    check(
-        b"any_other without mask_obj",
-        headed(17)
-            .object(2, 8)
-            .object(3, 0)
-            .object(4, 0)
-            .object(6, 0),
-    );
-    check(
         b"any_other and no other_obj",
         headed(17).object(2, 8).object(3, 0).object(6, 0),
     );
+}
+
+// 18.
+pub fn missing_masks() {
+    check(b"no mask_obj, none wanted", plain());
+    check(b"any_other without mask_obj", plain().object(6, 0));
     check(
         b"no control and no mask_obj",
         headed(17)
@@ -214,6 +219,10 @@ pub fn endings() {
             .object(4, 0)
             .object(6, 0),
     );
+}
+
+// 19.
+pub fn missing_control() {
     check(
         b"no control",
         headed(17).object(2, 55).object(3, 0).object(4, 0),

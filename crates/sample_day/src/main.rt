@@ -5,12 +5,21 @@ mod say;
 
 fn main() {
     lists::paper();
+    lists::paper_unstarred();
     lists::records_of_e();
-    lists::beginnings();
+    lists::first_kinds();
+    lists::unknown_kinds();
+    lists::short_bodies();
+    lists::high_rights();
     lists::orders();
-    lists::foreign_orders();
-    lists::realms();
+    lists::orders_of_ids();
+    lists::orders_of_realms();
+    lists::second_realms();
+    lists::default_realms();
+    lists::foreign_at_home();
     lists::unknown_realms();
-    lists::endings();
+    lists::missing_objects();
+    lists::missing_masks();
+    lists::missing_control();
     lists::lengths();
 }

@@ -1,5 +1,4 @@
 use Rattle.list.proofs.Rising.{by-kind, second, by-hi, by-lo, by-id}
-use borrow.Author.Needs.{needs}
 use Rattle.list.proofs.faults.in_order.Statement.{statement}
 use Rattle.list.proofs.faults.in_order.Tie as tie
 
@@ -7,8 +6,8 @@ pub in-order-spec : {M : Type 1} → statement M
 in-order-spec =
     tie.close
     (tie.spec
-    (λ c. search (by-kind, needs))
-    (λ c. search (second, needs))
-    (λ c. search (by-hi, needs))
-    (λ c. search (by-lo, needs))
-    (λ c. search (by-id, needs)))
+    (λ c. by-kind _ _ (c .before .before .if1 .taken))
+    (λ c. second _ _ (c .before .before .if1 .left) (c .if2 .taken))
+    (λ c. by-hi _ _ (c .before .before .before .before .before .before .before .before .before .if1 .left) (c .before .before .before .before .before .before .before .if2 .left) (c .before .before .if3 .taken))
+    (λ c. by-lo _ _ (c .before .before .before .before .before .before .before .before .before .before .before .before .if1 .left) (c .before .before .before .before .before .before .before .before .before .before .if2 .left) (c .before .before .before .before .before .if3 .left) (c .before .before .if4 .taken))
+    (λ c. by-id _ _ (c .before .before .before .before .before .before .before .before .before .before .before .before .if1 .left) (c .before .before .before .before .before .before .before .before .before .before .if2 .left) (c .before .before .before .before .before .if3 .left) (c .before .before .if4 .left)))

@@ -7,6 +7,6 @@ pub seen-after-spec : {M : Type 1} → statement M
 seen-after-spec =
     tie.close
     (tie.spec
-    (λ c κs. search needs)
+    (λ c κs. c .if1 .taken)
     (λ c. search needs)
     (λ c. sees-other _ _ (c .if1 .left)))

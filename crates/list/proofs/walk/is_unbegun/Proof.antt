@@ -1,6 +1,6 @@
 use native.Mathlib.Nat.{le-of-eq}
 use lib.ListN.{List·getD-eq-default}
-use Rattle.list.specs.Walking.{begins}
+use Rattle.list.specs.Fault.{begins}
 use borrow.Author.Tests.{eq-eqb, ne-eqb}
 use borrow.Author.Needs.{needs}
 use Rattle.list.proofs.walk.is_unbegun.Statement.{statement}
