@@ -1,6 +1,7 @@
 pub mod Lengths
 pub mod Tails
 pub mod Rising
+pub mod Marks
 pub mod Runs
 pub mod Enough
 pub mod Bytewise

@@ -7,42 +7,36 @@ use mathlib.Core.Bool.{Bool, true, false, cond, not, _||_, _&&_, or-false}
 use Prim.Native.Nat.{ℕ, zero, suc, _+_, _-_, _≤_, _<_}
 use native.Mathlib.Omega.{arith}
 use borrow.Author.Tests.{leb-true, leb-false, ne-eqb}
+use lib.Bits.{bitOr}
 use lib.Dec.{eqb, ltb, leb}
 use lib.ListN.{length, getD, drop, length-drop, drop-of-length-le}
 use lib.Seq.{drop-drop}
 use Rattle.words.specs.Test.{if_then_else_, anyOf}
+use Rattle.words.specs.Bit.{bit}
 use Rattle.words.specs.Said.{Said, done, refused, andThen}
-use Rattle.list.specs.Kind.{wantsMask}
 use Rattle.list.specs.Reading.{readOf}
-use Rattle.list.specs.Fault.{begins, fault, lacksControl, endFault}
-use Rattle.list.specs.Walking.{unseen, seenAfter, startOf, walkAfter, refusedOr, onward, heard, stepOf, Steps}
+use Rattle.list.specs.Fault.{begins, fault, Seen, endFault}
+use Rattle.list.specs.Walking.{markOf, seenOf, startOf, walkAfter, refusedOr, onward, heard, stepOf, Steps}
 use Rattle.list.specs.Checking.{Found, found, following, cutFrom, cut, Placed, placed, withWhole, wholes, records, refusedAt, passed, faultsAfter, has, seenIn, checkSays}
 use Rattle.list.specs.declared.records.Record.{Record}
 use Rattle.list.specs.declared.records.Read.{Read}
 use Rattle.list.specs.declared.records.Read.the-variants.{Nothing, Unknown, Short, Whole}
-use Rattle.list.specs.declared.faults.Seen.{Seen}
 use Rattle.list.specs.declared.walk.Walk.{Walk}
 use Rattle.list.specs.declared.walk.Step.{Step}
 use Rattle.list.specs.declared.walk.Step.the-variants.{Next, Refused, End}
+use Rattle.list.proofs.Marks.{of, joined, marked}
 use Rattle.list.proofs.Tails.{within-tail, empty}
 
 -- what was seen, and what the records to come have
 seeing : Seen → List Placed → Seen
-seeing s rs = record {
-  user = s .user || has (λ r. eqb (r .kind) 2) rs;
-  group = s .group || has (λ r. eqb (r .kind) 3) rs;
-  other = s .other || has (λ r. eqb (r .kind) 4) rs;
-  mask = s .mask || has (λ r. eqb (r .kind) 5) rs;
-  wanting = s .wanting || has (λ r. wantsMask (r .kind)) rs;
-  powerless = s .powerless || has lacksControl rs;
-}
+seeing s rs = joined s (seenIn rs)
 
 seeing-none : (s : Seen) → seeing s [] ≡ s
-unfolding seeing has anyOf
+unfolding seeing joined seenIn has anyOf
 seeing-none s = simp or-false
 
-seeing-all : (rs : List Placed) → seeing unseen rs ≡ seenIn rs
-unfolding seeing unseen seenIn
+seeing-all : (rs : List Placed) → seeing (seenOf 0) rs ≡ seenIn rs
+unfolding seeing joined seenOf bit
 seeing-all rs = refl
 
 one-more : (a t h : Bool) → (a || cond t true h) ≡ ((a || t) || h)
@@ -50,9 +44,9 @@ one-more true t h = refl
 one-more false true h = refl
 one-more false false h = refl
 
-seeing-more : (s : Seen) (at : ℕ) (r : Record) (rs : List Placed) → seeing s (placed at r ∷ rs) ≡ seeing (seenAfter s r) rs
-unfolding seeing seenAfter has anyOf placed
-seeing-more s at r rs = simp one-more
+seeing-more : (marks at : ℕ) (r : Record) (rs : List Placed) → seeing (seenOf marks) (placed at r ∷ rs) ≡ seeing (seenOf (bitOr marks (markOf r))) rs
+unfolding seeing joined of seenIn has anyOf placed
+seeing-more marks at r rs = rw (marked marks r) (simp one-more)
 
 wholes-whole : (at : ℕ) (r : Record) (fs : List Found) → wholes (found at (Whole r) ∷ fs) ≡ placed at r ∷ wholes fs
 unfolding wholes withWhole found placed
@@ -67,7 +61,7 @@ restSays : Walk → List ℕ → List Found → Said
 restSays w l fs =
     if ltb 4096 (length l) then refused 10 (0 ∷ []) else
     if eqb (w .at) 0 && not (begins l) then refused 11 (0 ∷ []) else
-    andThen (faultsAfter (w .home) (w .earlier) fs) (refusedAt (length l) (endFault (seeing (w .seen) (wholes fs))))
+    andThen (faultsAfter (w .home) (w .earlier) fs) (refusedAt (length l) (endFault (seeing (seenOf (w .marks)) (wholes fs))))
 
 -- a step to a record r and the walk v
 record Onward (n : ℕ) (w : Walk) (l : List ℕ) (r : Record) (v : Walk) : Type 0 where
@@ -97,15 +91,15 @@ rest-none n w l h = rw (drop-of-length-le l h) (go n)
     go (suc n) = refl
 
 module _ (w : Walk) (l : List ℕ) (short : ltb 4096 (length l) ≡ false) (begun : (eqb (w .at) 0 && not (begins l)) ≡ false) where
-  says-none : restSays w l [] ≡ refusedAt (length l) (endFault (w .seen))
+  says-none : restSays w l [] ≡ refusedAt (length l) (endFault (seenOf (w .marks)))
   unfolding restSays faultsAfter andThen wholes
   says-none = simp (short, begun, seeing-none)
 
-  at-end : (n : ℕ) → length l ≤ w .at → Turn n w l (refusedOr (endFault (w .seen)) (length l) End)
+  at-end : (n : ℕ) → length l ≤ w .at → Turn n w l (refusedOr (endFault (seenOf (w .marks))) (length l) End)
   unfolding Turn refusedOr refusedAt
-  at-end n h = go (eqb (endFault (w .seen)) 0) refl
+  at-end n h = go (eqb (endFault (seenOf (w .marks))) 0) refl
     where
-      go : (b : Bool) → eqb (endFault (w .seen)) 0 ≡ b → Turn n w l (if b then End else Refused (endFault (w .seen)) (length l))
+      go : (b : Bool) → eqb (endFault (seenOf (w .marks))) 0 ≡ b → Turn n w l (if b then End else Refused (endFault (seenOf (w .marks))) (length l))
       go true q = record { cuts = rest-none n w l h; says = rw (rest-none n w l h, says-none) (simp q) }
       go false q = rw (rest-none n w l h, says-none) (simp q)
 
@@ -169,7 +163,7 @@ unfolding Turn stepOf restSays
 turn n w l h = go (ltb 4096 (length l)) (eqb (w .at) 0 && not (begins l)) (leb (length l) (w .at)) refl refl refl
   where
     go : (a b c : Bool) → ltb 4096 (length l) ≡ a → (eqb (w .at) 0 && not (begins l)) ≡ b → leb (length l) (w .at) ≡ c
-        → Turn n w l (if a then Refused 10 0 else if b then Refused 11 0 else if c then refusedOr (endFault (w .seen)) (length l) End else heard w (readOf (drop (w .at) l)))
+        → Turn n w l (if a then Refused 10 0 else if b then Refused 11 0 else if c then refusedOr (endFault (seenOf (w .marks))) (length l) End else heard w (readOf (drop (w .at) l)))
     go true b c p q k = simp p
     go false true c p q k = simp (p, q)
     go false false true p q k = at-end w l p q n (leb-true (length l) (w .at) k)
@@ -184,7 +178,7 @@ module _ {A : Type 0} (f : A → Placed → A) where
     gathers : foldl f first (records l) ≡ foldl f a (wholes (rest fuel w l))
 
   pub starts : (l : List ℕ) (a : A) → Leads l a a (startOf l)
-  unfolding checkSays restSays rest records cut startOf seeing unseen seenIn
+  unfolding checkSays restSays rest records cut startOf seeing joined seenOf bit
   starts l a = record { fuel = length l; enough = omega arith; says = refl; gathers = refl }
 
   module _ (l : List ℕ) (first a : A) (w : Walk) (s : Step) (stepped : Steps w l s) (so-far : Leads l first a w) where

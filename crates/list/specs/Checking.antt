@@ -11,11 +11,10 @@ use Rattle.words.specs.Realm.{realmAt}
 use Rattle.words.specs.declared.realm.Realm.{Realm}
 use Rattle.list.specs.Kind.{wantsMask}
 use Rattle.list.specs.Reading.{readOf}
-use Rattle.list.specs.Fault.{begins, noRecord, fault, lacksControl, endFault}
+use Rattle.list.specs.Fault.{begins, noRecord, fault, lacksControl, Seen, endFault}
 use Rattle.list.specs.declared.records.Record.{Record}
 use Rattle.list.specs.declared.records.Read.{Read}
 use Rattle.list.specs.declared.records.Read.the-variants.{Nothing, Unknown, Short, Whole}
-use Rattle.list.specs.declared.faults.Seen.{Seen}
 use Rattle.list.specs.declared.verdict.Verdict.{Verdict}
 use Rattle.list.specs.declared.verdict.Verdict.the-variants.{Fine, Refused}
 
@@ -85,7 +84,7 @@ faultsAfter home earlier (f ∷ fs) =
 unfoldable pub has : (Record → Bool) → List Placed → Bool
 has test = anyOf (λ p. test (p .it))
 
--- what the end asks of the records
+-- what the records have
 unfoldable pub seenIn : List Placed → Seen
 seenIn rs = record {
   user = has (λ r. eqb (r .kind) 2) rs;

@@ -8,11 +8,10 @@ use Rattle.words.specs.Test.{if_then_else_}
 use Rattle.words.specs.Number.{less}
 use Rattle.words.specs.Realm.{zeroRealm, unknownRealm, sameRealm, lessRealm}
 use Rattle.words.specs.declared.realm.Realm.{Realm}
-use Rattle.list.specs.Kind.{isForeign, wantsMask}
+use Rattle.list.specs.Kind.{isForeign}
 use Rattle.list.specs.declared.records.Record.{Record}
 use Rattle.list.specs.declared.records.Read.{Read}
 use Rattle.list.specs.declared.records.Read.the-variants.{Nothing, Unknown, Short, Whole}
-use Rattle.list.specs.declared.faults.Seen.{Seen}
 
 -- a list begins with kind 1
 unfoldable pub begins : List ℕ → Bool
@@ -47,7 +46,16 @@ fault home earlier (Whole r) =
 unfoldable pub lacksControl : Record → Bool
 lacksControl r = eqb (r .kind) 2 && eqb (r .rights / 8 % 2) 0
 
--- the refusal that comes after the last record, by what the records have; 0 where there is none
+-- what the end of a list asks of its records: which of them there are, a record that wants a mask_obj, a user_obj without control
+pub record Seen : Type 0 where
+  pub user : Bool
+  pub group : Bool
+  pub other : Bool
+  pub mask : Bool
+  pub wanting : Bool
+  pub powerless : Bool
+
+-- the refusal that comes after the last record; 0 where there is none
 unfoldable pub endFault : Seen → ℕ
 endFault seen =
     if not (seen .user && (seen .group && seen .other)) then 17 else

@@ -1,48 +1,57 @@
 -- The walk over a list: one step gives the record and the walk after it, or the refusal with its place, or the end.
 use mathlib.Core.Path.{_≡_}
-use mathlib.Core.Bool.{Bool, false, not, _||_, _&&_}
+use mathlib.Core.Bool.{Bool, not, _&&_}
 use mathlib.Core.List.{List}
 use Prim.Native.Nat.{ℕ, _+_}
+use lib.Bits.{bitOr}
 use lib.Dec.{eqb, ltb, leb}
 use lib.ListN.{length, drop}
 use Rattle.words.specs.Test.{if_then_else_}
+use Rattle.words.specs.Bit.{bit}
 use Rattle.words.specs.Realm.{realmAt}
 use Rattle.list.specs.Kind.{wantsMask}
 use Rattle.list.specs.Reading.{readOf}
-use Rattle.list.specs.Fault.{begins, noRecord, fault, lacksControl, endFault}
+use Rattle.list.specs.Fault.{begins, noRecord, fault, lacksControl, Seen, endFault}
 use Rattle.list.specs.declared.records.Record.{Record}
 use Rattle.list.specs.declared.records.Read.{Read}
 use Rattle.list.specs.declared.records.Read.the-variants.{Nothing, Unknown, Short, Whole}
-use Rattle.list.specs.declared.faults.Seen.{Seen}
 use Rattle.list.specs.declared.walk.Walk.{Walk}
 use Rattle.list.specs.declared.walk.Step.{Step}
 use Rattle.list.specs.declared.walk.Step.the-variants.{Next, Refused, End}
 
--- before the first record
-unfoldable pub unseen : Seen
-unseen = record { user = false; group = false; other = false; mask = false; wanting = false; powerless = false }
+-- the mark that a record leaves in a walk, for the end: 1 user_obj, 2 group_obj, 4 other_obj, 8 mask_obj, 16 a record that wants a
+-- mask_obj, 32 more for a user_obj without control
+unfoldable pub markOf : Record → ℕ
+markOf r =
+    if wantsMask (r .kind) then 16 else
+    if lacksControl r then 33 else
+    if eqb (r .kind) 2 then 1 else
+    if eqb (r .kind) 3 then 2 else
+    if eqb (r .kind) 4 then 4 else
+    if eqb (r .kind) 5 then 8 else
+    0
 
--- after one record more
-unfoldable pub seenAfter : Seen → Record → Seen
-seenAfter seen r = record {
-  user = seen .user || eqb (r .kind) 2;
-  group = seen .group || eqb (r .kind) 3;
-  other = seen .other || eqb (r .kind) 4;
-  mask = seen .mask || eqb (r .kind) 5;
-  wanting = seen .wanting || wantsMask (r .kind);
-  powerless = seen .powerless || lacksControl r;
+-- what the marks of all records say
+unfoldable pub seenOf : ℕ → Seen
+seenOf marks = record {
+  user = bit 0 marks;
+  group = bit 1 marks;
+  other = bit 2 marks;
+  mask = bit 3 marks;
+  wanting = bit 4 marks;
+  powerless = bit 5 marks;
 }
 
 -- at the beginning of a list, whose default realm stands right after the first kind
 unfoldable pub startOf : List ℕ → Walk
-startOf list = record { at = 0; home = realmAt 1 list; earlier = noRecord; seen = unseen }
+startOf list = record { at = 0; home = realmAt 1 list; earlier = noRecord; marks = 0 }
 
 unfoldable pub walkAfter : Walk → Record → Walk
 walkAfter walk r = record {
   at = walk .at + r .size;
   home = walk .home;
   earlier = r;
-  seen = seenAfter (walk .seen) r;
+  marks = bitOr (walk .marks) (markOf r);
 }
 
 -- the refusal at a place, if there is one
@@ -63,7 +72,7 @@ unfoldable pub stepOf : Walk → List ℕ → Step
 stepOf walk list =
     if ltb 4096 (length list) then Refused 10 0 else
     if eqb (walk .at) 0 && not (begins list) then Refused 11 0 else
-    if leb (length list) (walk .at) then refusedOr (endFault (walk .seen)) (length list) End else
+    if leb (length list) (walk .at) then refusedOr (endFault (seenOf (walk .marks))) (length list) End else
     heard walk (readOf (drop (walk .at) list))
 
 -- starting a walk

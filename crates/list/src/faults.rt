@@ -16,22 +16,9 @@ use crate::refusal::RIGHTS_ABOVE_63;
 use words::realm::Realm;
 use words::realm::same_realm;
 ghost use mathlib.Core.Path.{_≡_};
-ghost use Prim.Native.Nat.{_<_};
 ghost use Rattle.list.specs.Fault.{rises, isForbidden, fault, lacksControl, endFault};
-ghost use Rattle.list.specs.Walking.{seenAfter};
+ghost use Rattle.list.specs.Walking.{markOf, seenOf};
 ghost use Rattle.list.specs.declared.records.Read.the-variants.{Whole};
-
-// What the end of a list asks of its records.
-pub struct Seen {
-    pub user: bool,
-    pub group: bool,
-    pub other: bool,
-    pub mask: bool,
-    // A record that wants a mask_obj.
-    pub wanting: bool,
-    // A user_obj without control.
-    pub powerless: bool,
-}
 
 // By kind, then by body without rights: the numbers' order is the bytes' order.
 fn in_order(earlier: Record, r: Record) -> bool
@@ -93,50 +80,44 @@ fn lacks_control(r: Record) -> bool
     (r.kind == USER_OBJ) & (r.rights / 8 % 2 == 0)
 }
 
-// A record that wants no mask_obj is one of the objects, or the default realm.
-fn with_object(seen: Seen, r: Record) -> Seen
-    requires { ⌜ r .kind < 6 ⌝ }
-    ensures { λ s. ⌜ s ≡ seenAfter seen r ⌝ }
+// What a record leaves for the end of the list: 1 user_obj, 2 group_obj, 4 other_obj, 8 mask_obj, 16 a record that wants a
+// mask_obj, 32 more for a user_obj without control.
+pub(crate) fn mark_of(r: Record) -> u8
+    ensures { λ m. ⌜ m ≡ markOf r ⌝ }
 {
     let kind = r.kind;
-    Seen {
-        user: seen.user | (kind == USER_OBJ),
-        group: seen.group | (kind == GROUP_OBJ),
-        other: seen.other | (kind == OTHER_OBJ),
-        mask: seen.mask | (kind == MASK_OBJ),
-        wanting: seen.wanting,
-        powerless: seen.powerless | lacks_control(r),
+    if ANY_OTHER <= kind {
+        return 16;
     }
+    if lacks_control(r) {
+        return 33;
+    }
+    if kind == USER_OBJ {
+        return 1;
+    }
+    if kind == GROUP_OBJ {
+        return 2;
+    }
+    if kind == OTHER_OBJ {
+        return 4;
+    }
+    if kind == MASK_OBJ {
+        return 8;
+    }
+    0
 }
 
-// What is seen after one record more.
-pub(crate) fn seen_after(seen: Seen, r: Record) -> Seen
-    ensures { λ s. ⌜ s ≡ seenAfter seen r ⌝ }
+// 17, 18 or 19; 0 where the list may end with these marks.
+pub(crate) fn end_fault(marks: u8) -> u8
+    ensures { λ n. ⌜ n ≡ endFault (seenOf marks) ⌝ }
 {
-    if r.kind < ANY_OTHER {
-        return with_object(seen, r);
-    }
-    Seen {
-        user: seen.user,
-        group: seen.group,
-        other: seen.other,
-        mask: seen.mask,
-        wanting: true,
-        powerless: seen.powerless,
-    }
-}
-
-// 17, 18 or 19; 0 where the list may end here.
-pub(crate) fn end_fault(seen: Seen) -> u8
-    ensures { λ n. ⌜ n ≡ endFault seen ⌝ }
-{
-    if !(seen.user & (seen.group & seen.other)) {
+    if marks % 8 != 7 {
         return OBJECT_MISSING;
     }
-    if seen.wanting & !seen.mask {
+    if marks / 8 % 4 == 2 {
         return MASK_MISSING;
     }
-    if seen.powerless {
+    if marks / 32 % 2 == 1 {
         return CONTROL_MISSING;
     }
     0

@@ -1,8 +1,7 @@
 // The walk over a list, from record to record; its steps make all of the list's checks.
-use crate::faults::Seen;
 use crate::faults::end_fault;
 use crate::faults::fault_of;
-use crate::faults::seen_after;
+use crate::faults::mark_of;
 use crate::kind::DEFAULT_REALM;
 use crate::records::Read;
 use crate::records::Record;
@@ -20,18 +19,18 @@ ghost use lib.Dec.{eqb};
 ghost use lib.ListN.{length};
 ghost use Rattle.list.specs.Reading.{readOf};
 ghost use Rattle.list.specs.Fault.{begins, endFault};
-ghost use Rattle.list.specs.Walking.{walkAfter, refusedOr, heard, Starts, Steps};
+ghost use Rattle.list.specs.Walking.{seenOf, walkAfter, refusedOr, heard, Starts, Steps};
 ghost use Rattle.list.specs.declared.records.Read.the-variants.{Whole};
 ghost use Rattle.list.specs.declared.walk.Step.the-variants.{End};
 
 const LONGEST: usize = 4096;
 
-// Where the next record begins, the default realm, the record before, and what has been seen so far.
+// Where the next record begins, the default realm, the record before, and the marks of all so far.
 pub struct Walk {
     pub at: usize,
     pub home: Realm,
     pub earlier: Record,
-    pub seen: Seen,
+    pub marks: u8,
 }
 
 pub enum Step {
@@ -65,19 +64,11 @@ impl Walk {
             rights: 0,
             size: 0,
         };
-        let unseen = Seen {
-            user: false,
-            group: false,
-            other: false,
-            mask: false,
-            wanting: false,
-            powerless: false,
-        };
         Walk {
             at: 0,
             home: realm_at(list, 1),
             earlier: none,
-            seen: unseen,
+            marks: 0,
         }
     }
 
@@ -85,13 +76,12 @@ impl Walk {
         requires { ⌜ self .at + r .size < 2 ^ 64 ⌝ }
         ensures { λ w. ⌜ w ≡ walkAfter self r ⌝ }
     {
-        let seen = self.seen;
         let home = self.home;
         Walk {
             at: self.at + r.size,
             home: home,
             earlier: r,
-            seen: seen_after(seen, r),
+            marks: self.marks | mark_of(r),
         }
     }
 
@@ -133,10 +123,9 @@ impl Walk {
 
     // The end of a list of n bytes.
     fn finish(self, n: usize) -> Step
-        ensures { λ s. ⌜ s ≡ refusedOr (endFault (self .seen)) n End ⌝ }
+        ensures { λ s. ⌜ s ≡ refusedOr (endFault (seenOf (self .marks))) n End ⌝ }
     {
-        let seen = self.seen;
-        let number = end_fault(seen);
+        let number = end_fault(self.marks);
         if number != 0 {
             return Step::Refused {
                 number: number,

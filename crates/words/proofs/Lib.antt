@@ -1,5 +1,6 @@
 pub mod Tests
 pub mod Lines
+pub mod Bits
 pub mod Digits
 pub mod Order
 pub mod Determined

@@ -10,4 +10,4 @@ after-spec =
     (tie.spec
     (λ c. search needs)
     (λ c κs. search needs)
-    (λ c. simp (c .seen-after .ensures)))
+    (λ c. simp (c .before .mark-of .ensures)))

@@ -1,12 +1,12 @@
 use Rattle.words.specs.Realm.{zeroRealm}
 use Rattle.list.specs.Fault.{noRecord}
-use Rattle.list.specs.Walking.{startOf, unseen}
+use Rattle.list.specs.Walking.{startOf}
 use borrow.Author.Needs.{needs}
 use Rattle.list.proofs.walk.Walk.start.Statement.{statement}
 use Rattle.list.proofs.walk.Walk.start.Tie as tie
 
 pub start-spec : {M : Type 1} → statement M
-unfolding startOf unseen noRecord zeroRealm
+unfolding startOf noRecord zeroRealm
 start-spec =
     tie.close
     (tie.spec
