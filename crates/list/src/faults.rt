@@ -14,6 +14,7 @@ use crate::refusal::OBJECT_MISSING;
 use crate::refusal::OUT_OF_ORDER;
 use crate::refusal::RIGHTS_ABOVE_63;
 use words::realm::Realm;
+use words::realm::is_unknown;
 use words::realm::same_realm;
 ghost use mathlib.Core.Path.{_≡_};
 ghost use Rattle.list.specs.Fault.{rises, isForbidden, fault, lacksControl, endFault};
@@ -45,11 +46,7 @@ fn is_forbidden(home: Realm, r: Record) -> bool
     ensures { λ b. ⌜ b ≡ isForbidden home r ⌝ }
 {
     let realm = r.realm;
-    let unknown = Realm {
-        hi: 0xffff_fffe_0000_0000,
-        lo: 0,
-    };
-    if same_realm(realm, unknown) {
+    if is_unknown(realm) {
         return true;
     }
     if !is_foreign(r.kind) {

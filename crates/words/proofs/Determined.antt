@@ -5,7 +5,7 @@ use mathlib.Core.List.{List}
 use Prim.Native.Nat.{ℕ}
 use Rattle.words.specs.Said.{Said}
 use Rattle.words.specs.Number.{ReadsNumber}
-use Rattle.words.specs.Realm.{ReadsRealm, TellsRealms}
+use Rattle.words.specs.Realm.{ReadsRealm, TellsRealms, TellsUnknown}
 use Rattle.words.specs.declared.realm.Realm.{Realm}
 
 -- where an answer can be read back from what it says, two answers that say the same are equal
@@ -21,3 +21,6 @@ realm-at-determined bytes at r r′ p q = p .answer ∙ sym (q .answer)
 
 pub same-realm-determined : (a b : Realm) (r r′ : Bool) → TellsRealms a b r → TellsRealms a b r′ → r ≡ r′
 same-realm-determined a b r r′ p q = p .answer ∙ sym (q .answer)
+
+pub is-unknown-determined : (realm : Realm) (r r′ : Bool) → TellsUnknown realm r → TellsUnknown realm r′ → r ≡ r′
+is-unknown-determined realm r r′ p q = p .answer ∙ sym (q .answer)

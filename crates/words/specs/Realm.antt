@@ -36,3 +36,7 @@ pub record ReadsRealm (bytes : List ℕ) (at : ℕ) (r : Realm) : Type 0 where
 -- telling whether two realms are the same
 pub record TellsRealms (a b : Realm) (r : Bool) : Type 0 where
   pub answer : r ≡ sameRealm a b
+
+-- telling whether a realm is the unknown one
+pub record TellsUnknown (realm : Realm) (r : Bool) : Type 0 where
+  pub answer : r ≡ sameRealm realm unknownRealm

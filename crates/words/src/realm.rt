@@ -1,7 +1,7 @@
 // Realms: sixteen bytes, held as two numbers of eight.
 use crate::number::holds;
 use crate::number::whole64;
-ghost use Rattle.words.specs.Realm.{ReadsRealm, TellsRealms};
+ghost use Rattle.words.specs.Realm.{ReadsRealm, TellsRealms, TellsUnknown};
 
 pub struct Realm {
     pub hi: u64,
@@ -26,4 +26,11 @@ pub fn same_realm(a: Realm, b: Realm) -> bool
     ensures { λ r. ⌜ TellsRealms a b r ⌝ }
 {
     (a.hi == b.hi) & (a.lo == b.lo)
+}
+
+// It is the unknown realm: 255, 255, 255, 254 and twelve zero bytes.
+pub fn is_unknown(realm: Realm) -> bool
+    ensures { λ r. ⌜ TellsUnknown realm r ⌝ }
+{
+    (realm.hi == 0xffff_fffe_0000_0000) & (realm.lo == 0)
 }

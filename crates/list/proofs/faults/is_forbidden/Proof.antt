@@ -1,4 +1,3 @@
-use Rattle.words.specs.Realm.{unknownRealm}
 use Rattle.list.specs.Fault.{isForbidden}
 use borrow.Author.Tests.{not-true, not-false}
 use borrow.Author.Needs.{needs}
@@ -6,13 +5,13 @@ use Rattle.list.proofs.faults.is_forbidden.Statement.{statement}
 use Rattle.list.proofs.faults.is_forbidden.Tie as tie
 
 pub is-forbidden-spec : {M : Type 1} → statement M
-unfolding isForbidden unknownRealm
+unfolding isForbidden
 is-forbidden-spec =
     tie.close
     (tie.spec
     (λ c κs. search needs)
-    (λ c. simp (← c .before .same-realm .ensures .answer, c .if1 .taken))
+    (λ c. simp (← c .before .is-unknown .ensures .answer, c .if1 .taken))
     (λ c κs. search needs)
-    (λ c. simp (← c .before .before .before .same-realm .ensures .answer, c .before .before .if1 .left, ← c .before .is-foreign .ensures, not-true (c .before .is-foreign .result) (c .if2 .taken)))
+    (λ c. simp (← c .before .before .before .is-unknown .ensures .answer, c .before .before .if1 .left, ← c .before .is-foreign .ensures, not-true (c .before .is-foreign .result) (c .if2 .taken)))
     (λ c κs. search needs)
-    (λ c. simp (← c .before .before .before .before .same-realm .ensures .answer, c .before .before .before .if1 .left, ← c .before .before .is-foreign .ensures, not-false (c .before .before .is-foreign .result) (c .before .if2 .left), ← c .same-realm2 .ensures .answer)))
+    (λ c. simp (← c .before .before .before .before .is-unknown .ensures .answer, c .before .before .before .if1 .left, ← c .before .before .is-foreign .ensures, not-false (c .before .before .is-foreign .result) (c .before .if2 .left), ← c .same-realm .ensures .answer)))
