@@ -3,6 +3,7 @@ pub mod Tails
 pub mod Rising
 pub mod Marks
 pub mod Runs
+pub mod Whole
 pub mod Enough
 pub mod Bytewise
 pub mod Determined

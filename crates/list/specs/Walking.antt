@@ -1,17 +1,19 @@
 -- The walk over a list: one step gives the record and the walk after it, or the refusal with its place, or the end.
 use mathlib.Core.Path.{_≡_}
 use mathlib.Core.Bool.{Bool, not, _&&_}
-use mathlib.Core.List.{List}
-use Prim.Native.Nat.{ℕ, _+_}
+use mathlib.Core.List.{List, [], _∷_}
+use Prim.Native.Nat.{ℕ, zero, suc, _+_}
 use lib.Bits.{bitOr}
 use lib.Dec.{eqb, ltb, leb}
 use lib.ListN.{length, drop}
 use Rattle.words.specs.Test.{if_then_else_}
+use Rattle.words.specs.Said.{Said, done, refused}
 use Rattle.words.specs.Bit.{bit}
 use Rattle.words.specs.Realm.{realmAt}
 use Rattle.list.specs.Kind.{wantsMask}
 use Rattle.list.specs.Reading.{readOf}
 use Rattle.list.specs.Fault.{begins, noRecord, fault, lacksControl, Seen, endFault}
+use Rattle.list.specs.Checking.{Placed, placed}
 use Rattle.list.specs.declared.records.Record.{Record}
 use Rattle.list.specs.declared.records.Read.{Read}
 use Rattle.list.specs.declared.records.Read.the-variants.{Nothing, Unknown, Short, Whole}
@@ -82,3 +84,22 @@ pub record Starts (list : List ℕ) (r : Walk) : Type 0 where
 -- one step
 pub record Steps (walk : Walk) (list : List ℕ) (r : Step) : Type 0 where
   pub answer : r ≡ stepOf walk list
+
+-- what a walk meets to its end, and what it says there
+pub record Run : Type 0 where
+  pub met : List Placed
+  pub says : Said
+
+unfoldable pub meeting : ℕ → Step → (Walk → Run) → Run
+meeting at (Next r v) rest = record { met = placed at r ∷ rest v .met; says = rest v .says }
+meeting at (Refused number place) rest = record { met = []; says = refused number (place ∷ []) }
+meeting at End rest = record { met = []; says = done [] }
+
+-- by at most so many steps
+unfoldable pub runFrom : ℕ → Walk → List ℕ → Run
+runFrom zero walk list = record { met = []; says = done [] }
+runFrom (suc n) walk list = meeting (walk .at) (stepOf walk list) (λ v. runFrom n v list)
+
+-- over a whole list: a step for each record, which has a byte at least, and one for the end
+unfoldable pub run : List ℕ → Run
+run list = runFrom (suc (length list)) (startOf list) list
