@@ -1,7 +1,15 @@
 // The access list in bytes: a record, the walk from record to record, the check of a whole list.
-pub mod faults;
+mod faults;
 pub mod kind;
-pub mod records;
+mod records;
 pub mod refusal;
-pub mod verdict;
-pub mod walk;
+mod verdict;
+mod walk;
+
+pub use records::Read;
+pub use records::Record;
+pub use records::read_record;
+pub use verdict::Verdict;
+pub use verdict::check_list;
+pub use walk::Step;
+pub use walk::Walk;

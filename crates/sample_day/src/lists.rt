@@ -8,9 +8,9 @@ use crate::say::check;
 use crate::say::check_first;
 use crate::say::number;
 use crate::say::text;
-use list::records::Record;
-use list::walk::Step;
-use list::walk::Walk;
+use list::Record;
+use list::Step;
+use list::Walk;
 
 pub fn paper() {
     check(b"list E", list_e());

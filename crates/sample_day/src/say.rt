@@ -1,8 +1,8 @@
 // What is written of a case: its name, then the answer.
 use crate::draft::Draft;
 use libc::STDOUT_FILENO;
-use list::verdict::Verdict;
-use list::verdict::check_list;
+use list::Verdict;
+use list::check_list;
 
 pub fn text(words: &[u8]) {
     io::write_all(STDOUT_FILENO, words);

@@ -1,3 +1,9 @@
 // Numbers and realms in bytes: big-endian, read and compared.
-pub mod number;
-pub mod realm;
+mod number;
+mod realm;
+
+pub use number::number32;
+pub use realm::Realm;
+pub use realm::is_unknown;
+pub use realm::realm_at;
+pub use realm::same_realm;
