@@ -1,12 +1,12 @@
 -- The order of records by their numbers is the order of their bytes. Assumes nothing.
 use mathlib.Core.Path.{_≡_, refl, sym, _∙_, ap}
-use mathlib.Core.List.{List, [], _∷_, _++_, append-nil, append-assoc}
+use mathlib.Core.List.{List, [], _∷_, _++_, append-nil}
 use mathlib.Core.Bool.{Bool, true, false, not, _||_, _&&_}
 use Prim.Native.Nat.{ℕ, _+_, _≤_, _<_}
 use native.Mathlib.Omega.{arith}
 use borrow.Author.Tests.{eqb-true, eqb-false}
 use lib.Dec.{eqb, ltb}
-use lib.ListN.{length, getD, take, drop}
+use lib.ListN.{length, getD, take}
 use lib.Seq.{take-add}
 use Rattle.words.specs.Test.{if_then_else_}
 use Rattle.words.specs.Number.{Bytes, number, part, numberAt, less, before}
@@ -17,10 +17,9 @@ use Rattle.list.specs.Reading.{recordOf, readOf}
 use Rattle.list.specs.Fault.{rises}
 use Rattle.list.specs.Bytewise.{key, risesInBytes}
 use Rattle.list.specs.declared.records.Record.{Record}
-use Rattle.list.specs.declared.records.Read.{Read}
 use Rattle.list.specs.declared.records.Read.the-variants.{Whole}
 use Rattle.list.proofs.Lengths.{everyBelow, everywhere, some-size}
-use Rattle.list.proofs.Rising.{apart, tied}
+use Rattle.list.proofs.Rising.{apart}
 use Rattle.list.proofs.Tails.{Is, is}
 
 -- a part of a body is missing or has its one length

@@ -1,10 +1,10 @@
 -- The order of two records by the tests that the code makes. Assumes nothing.
 use mathlib.Core.Path.{_≡_, sym}
-use mathlib.Core.Bool.{Bool, true, false, not, _||_, or-false}
+use mathlib.Core.Bool.{Bool, false, or-false}
 use Prim.Native.Nat.{ℕ}
 use native.Mathlib.Nat.{le-of-eq}
 use borrow.Author.Tests.{eq-eqb, ne-eqb, le-ltb}
-use lib.Dec.{ltb, eqb}
+use lib.Dec.{ltb}
 use Rattle.words.specs.Realm.{lessRealm}
 use Rattle.words.specs.Number.{less}
 use Rattle.list.specs.Fault.{rises}

@@ -1,5 +1,5 @@
 -- Tails of a list, and what a record that was read from one takes of it. Assumes nothing.
-use mathlib.Core.Path.{_≡_, refl, sym, _∙_, ap}
+use mathlib.Core.Path.{_≡_, refl, sym, ap}
 use mathlib.Core.List.{List}
 use mathlib.Core.Bool.{Bool, true, false, not}
 use Prim.Native.Nat.{ℕ, _+_, _-_, _≤_, _<_}
@@ -16,7 +16,6 @@ use Rattle.list.specs.Kind.{body, bodyOf, bodyLength, isKnown, size}
 use Rattle.list.specs.Reading.{recordOf, readAs, readOf}
 use Rattle.list.proofs.Lengths.{some-size}
 use Rattle.list.specs.declared.records.Record.{Record}
-use Rattle.list.specs.declared.records.Read.{Read}
 use Rattle.list.specs.declared.records.Read.the-variants.{Nothing, Unknown, Short, Whole}
 
 -- the part `&l[at..]` is the tail

@@ -1,10 +1,10 @@
 -- A walk over a whole list says what the check says, and meets the list's records. Assumes nothing.
-use mathlib.Core.Path.{_≡_, refl, sym, _∙_, ap}
+use mathlib.Core.Path.{_≡_, refl, sym, _∙_}
 use mathlib.Core.List.{List, [], _∷_, _++_, foldl, append-assoc, append-nil}
 use Prim.Native.Nat.{ℕ, zero, suc, _-_, _<_}
 use native.Mathlib.Omega.{arith}
 use lib.ListN.{length}
-use Rattle.words.specs.Said.{Said, done, refused}
+use Rattle.words.specs.Said.{done}
 use Rattle.list.specs.Checking.{Placed, placed, records, checkSays}
 use Rattle.list.specs.Walking.{startOf, stepOf, Steps, Run, meeting, runFrom, run}
 use Rattle.list.specs.declared.walk.Walk.{Walk}

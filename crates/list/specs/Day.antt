@@ -2,7 +2,7 @@
 use mathlib.Core.List.{List, [], _∷_, _++_}
 use Prim.Native.Nat.{ℕ}
 use lib.ListN.{take, drop, replicate}
-use Rattle.words.specs.Said.{Said, done, refused}
+use Rattle.words.specs.Said.{done, refused}
 use Rattle.words.specs.Lines.{Line, line}
 use Rattle.list.specs.Checking.{checkSays}
 

@@ -1,6 +1,6 @@
 -- One record, read from the part of the list that begins at it.
 use mathlib.Core.Path.{_≡_}
-use mathlib.Core.Bool.{Bool, cond, not}
+use mathlib.Core.Bool.{not}
 use mathlib.Core.List.{List}
 use Prim.Native.Nat.{ℕ, _+_}
 use lib.Dec.{eqb, ltb}

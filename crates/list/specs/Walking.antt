@@ -1,6 +1,6 @@
 -- The walk over a list: one step gives the record and the walk after it, or the refusal with its place, or the end.
 use mathlib.Core.Path.{_≡_}
-use mathlib.Core.Bool.{Bool, not, _&&_}
+use mathlib.Core.Bool.{not, _&&_}
 use mathlib.Core.List.{List, [], _∷_}
 use Prim.Native.Nat.{ℕ, zero, suc, _+_}
 use lib.Bits.{bitOr}

@@ -1,6 +1,6 @@
-use Rattle.list.specs.Fault.{fault}
-use borrow.Author.Tests.{lt-ltb, le-ltb}
 use borrow.Author.Needs.{needs}
+use borrow.Author.Tests.{lt-ltb, le-ltb}
+use Rattle.list.specs.Fault.{fault}
 use Rattle.list.proofs.faults.fault_of.Statement.{statement}
 use Rattle.list.proofs.faults.fault_of.Tie as tie
 

@@ -1,6 +1,6 @@
-use Rattle.list.specs.Fault.{isForbidden}
-use borrow.Author.Tests.{not-true, not-false}
 use borrow.Author.Needs.{needs}
+use borrow.Author.Tests.{not-true, not-false}
+use Rattle.list.specs.Fault.{isForbidden}
 use Rattle.list.proofs.faults.is_forbidden.Statement.{statement}
 use Rattle.list.proofs.faults.is_forbidden.Tie as tie
 

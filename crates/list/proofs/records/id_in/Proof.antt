@@ -1,5 +1,5 @@
-use borrow.Author.Tests.{eq-eqb, ne-eqb}
 use borrow.Author.Needs.{needs}
+use borrow.Author.Tests.{eq-eqb, ne-eqb}
 use Rattle.list.proofs.records.id_in.Statement.{statement}
 use Rattle.list.proofs.records.id_in.Tie as tie
 

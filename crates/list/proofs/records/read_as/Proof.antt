@@ -1,5 +1,5 @@
-use Rattle.list.proofs.Tails.{read-short, read-whole}
 use borrow.Author.Needs.{needs}
+use Rattle.list.proofs.Tails.{read-short, read-whole}
 use Rattle.list.proofs.records.read_as.Statement.{statement}
 use Rattle.list.proofs.records.read_as.Tie as tie
 

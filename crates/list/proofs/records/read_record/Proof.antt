@@ -1,12 +1,12 @@
-use Rattle.list.proofs.Tails.{no-body}
-use Rattle.list.proofs.Lengths.{everyBelow, bodyIs, among, alike, beyond}
-use Rattle.list.specs.Reading.{readOf}
-use Rattle.list.specs.Kind.{body, bodies, bodyOf}
-use lib.ListN.{getD}
 use mathlib.Core.Path.{refl}
-use borrow.Author.Tests.{eq-eqb, ne-eqb}
 use native.Mathlib.Omega.{arith}
 use borrow.Author.Needs.{needs}
+use borrow.Author.Tests.{eq-eqb, ne-eqb}
+use lib.ListN.{getD}
+use Rattle.list.specs.Kind.{body, bodies, bodyOf}
+use Rattle.list.specs.Reading.{readOf}
+use Rattle.list.proofs.Lengths.{everyBelow, bodyIs, among, alike, beyond}
+use Rattle.list.proofs.Tails.{no-body}
 use Rattle.list.proofs.records.read_record.Statement.{statement}
 use Rattle.list.proofs.records.read_record.Tie as tie
 

@@ -1,6 +1,6 @@
-use Rattle.words.specs.Realm.{zeroRealm}
-use borrow.Author.Tests.{eq-eqb, ne-eqb}
 use borrow.Author.Needs.{needs}
+use borrow.Author.Tests.{eq-eqb, ne-eqb}
+use Rattle.words.specs.Realm.{zeroRealm}
 use Rattle.list.proofs.records.realm_in.Statement.{statement}
 use Rattle.list.proofs.records.realm_in.Tie as tie
 

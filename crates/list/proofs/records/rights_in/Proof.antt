@@ -1,6 +1,6 @@
-use lib.ListN.{List·getD-eq-default}
-use borrow.Author.Tests.{eq-eqb, ne-eqb}
 use borrow.Author.Needs.{needs}
+use borrow.Author.Tests.{eq-eqb, ne-eqb}
+use lib.ListN.{List·getD-eq-default}
 use Rattle.list.proofs.records.rights_in.Statement.{statement}
 use Rattle.list.proofs.records.rights_in.Tie as tie
 

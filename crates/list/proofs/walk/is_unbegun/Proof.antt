@@ -1,8 +1,8 @@
 use native.Mathlib.Nat.{le-of-eq}
+use borrow.Author.Needs.{needs}
+use borrow.Author.Tests.{eq-eqb, ne-eqb}
 use lib.ListN.{List·getD-eq-default}
 use Rattle.list.specs.Fault.{begins}
-use borrow.Author.Tests.{eq-eqb, ne-eqb}
-use borrow.Author.Needs.{needs}
 use Rattle.list.proofs.walk.is_unbegun.Statement.{statement}
 use Rattle.list.proofs.walk.is_unbegun.Tie as tie
 

@@ -1,8 +1,8 @@
 use Prim.Native.Nat.{_-_}
-use lib.ListN.{length}
-use Rattle.list.specs.Checking.{Placed}
-use Rattle.list.proofs.Runs
 use borrow.Author.Needs.{needs}
+use lib.ListN.{length}
+use Rattle.list.proofs.Runs
+use Rattle.list.specs.Checking.{Placed}
 use Rattle.sample_day.proofs.lists.records_of.Statement.{statement}
 use Rattle.sample_day.proofs.lists.records_of.Tie as tie
 

@@ -1,8 +1,8 @@
-use Prim.Native.Nat.{_+_}
-use lib.ListN.{length}
 use mathlib.Core.Path.{sym}
+use Prim.Native.Nat.{_+_}
 use native.Mathlib.Omega.{arith}
 use borrow.Author.Tests.{lt-leb}
+use lib.ListN.{length}
 use Rattle.words.specs.Number.{within}
 use Rattle.words.proofs.Digits.{room}
 use Rattle.words.proofs.number.holds.Statement.{statement}

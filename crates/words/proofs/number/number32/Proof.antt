@@ -1,6 +1,6 @@
 use borrow.Author.Needs.{needs}
-use Rattle.words.proofs.Digits.{fits}
 use Rattle.words.specs.Number.{numberAt}
+use Rattle.words.proofs.Digits.{fits}
 use Rattle.words.proofs.number.number32.Statement.{statement}
 use Rattle.words.proofs.number.number32.Tie as tie
 

@@ -1,7 +1,7 @@
 use mathlib.Core.Path.{sym}
-use Rattle.words.proofs.Digits.{four}
 use native.Mathlib.Omega.{arith}
 use borrow.Author.Needs.{needs}
+use Rattle.words.proofs.Digits.{four}
 use Rattle.words.proofs.number.whole32.Statement.{statement}
 use Rattle.words.proofs.number.whole32.Tie as tie
 

@@ -1,6 +1,6 @@
+use native.Mathlib.Omega.{arith}
 use borrow.Author.Needs.{needs}
 use Rattle.words.proofs.Digits.{halves}
-use native.Mathlib.Omega.{arith}
 use Rattle.words.proofs.number.whole64.Statement.{statement}
 use Rattle.words.proofs.number.whole64.Tie as tie
 

@@ -1,7 +1,7 @@
 use native.Mathlib.Omega.{arith}
 use borrow.Author.Needs.{needs}
-use Rattle.words.proofs.Digits.{fits}
 use Rattle.words.specs.Realm.{realmAt, zeroRealm}
+use Rattle.words.proofs.Digits.{fits}
 use Rattle.words.proofs.realm.realm_at.Statement.{statement}
 use Rattle.words.proofs.realm.realm_at.Tie as tie
 

@@ -1,5 +1,5 @@
-use Rattle.list.specs.Walking.{walkAfter}
 use borrow.Author.Needs.{needs}
+use Rattle.list.specs.Walking.{walkAfter}
 use Rattle.list.proofs.walk.Walk.after.Statement.{statement}
 use Rattle.list.proofs.walk.Walk.after.Tie as tie
 

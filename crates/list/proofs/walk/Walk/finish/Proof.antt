@@ -1,6 +1,6 @@
+use borrow.Author.Needs.{needs}
 use borrow.Author.Tests.{eq-eqb, ne-eqb}
 use Rattle.list.specs.Walking.{refusedOr}
-use borrow.Author.Needs.{needs}
 use Rattle.list.proofs.walk.Walk.finish.Statement.{statement}
 use Rattle.list.proofs.walk.Walk.finish.Tie as tie
 

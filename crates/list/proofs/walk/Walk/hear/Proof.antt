@@ -1,9 +1,9 @@
-use Rattle.list.specs.Fault.{fault}
-use Rattle.list.specs.Walking.{heard, refusedOr, onward}
 use mathlib.Core.Path.{sym, _∙_}
-use Rattle.list.proofs.Tails.{within-tail}
 use native.Mathlib.Omega.{arith}
 use borrow.Author.Needs.{needs}
+use Rattle.list.specs.Fault.{fault}
+use Rattle.list.specs.Walking.{heard, refusedOr, onward}
+use Rattle.list.proofs.Tails.{within-tail}
 use Rattle.list.proofs.walk.Walk.hear.Statement.{statement}
 use Rattle.list.proofs.walk.Walk.hear.Tie as tie
 

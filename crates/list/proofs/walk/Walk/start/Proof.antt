@@ -1,7 +1,7 @@
+use borrow.Author.Needs.{needs}
 use Rattle.words.specs.Realm.{zeroRealm}
 use Rattle.list.specs.Fault.{noRecord}
 use Rattle.list.specs.Walking.{startOf}
-use borrow.Author.Needs.{needs}
 use Rattle.list.proofs.walk.Walk.start.Statement.{statement}
 use Rattle.list.proofs.walk.Walk.start.Tie as tie
 

@@ -1,7 +1,7 @@
+use borrow.Author.Needs.{needs}
+use borrow.Author.Tests.{lt-ltb, le-ltb, le-leb, lt-leb}
 use Rattle.list.specs.Walking.{stepOf}
 use Rattle.list.proofs.Tails.{rest}
-use borrow.Author.Tests.{lt-ltb, le-ltb, le-leb, lt-leb}
-use borrow.Author.Needs.{needs}
 use Rattle.list.proofs.walk.Walk.step.Statement.{statement}
 use Rattle.list.proofs.walk.Walk.step.Tie as tie
 
