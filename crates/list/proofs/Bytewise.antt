@@ -11,15 +11,14 @@ use lib.Seq.{take-add}
 use Rattle.words.specs.Test.{if_then_else_}
 use Rattle.words.specs.Number.{Bytes, number, part, numberAt, less, before}
 use Rattle.words.specs.Realm.{zeroRealm, realmAt, lessRealm}
-use Rattle.words.proofs.Order.{less-last, parts, number-at, realms}
+use Rattle.words.proofs.Order.{apart, less-last, parts, number-at, realms}
 use Rattle.list.specs.Kind.{body, bodies, bodyOf, bodyLength, size}
 use Rattle.list.specs.Reading.{recordOf, readOf}
 use Rattle.list.specs.Fault.{rises}
 use Rattle.list.specs.Bytewise.{key, risesInBytes}
 use Rattle.list.specs.declared.records.Record.{Record}
 use Rattle.list.specs.declared.records.Read.the-variants.{Whole}
-use Rattle.list.proofs.Lengths.{everyBelow, everywhere, some-size}
-use Rattle.list.proofs.Rising.{apart}
+use Rattle.list.proofs.Bodies.{everyBelow, everywhere, some-size}
 use Rattle.list.proofs.Tails.{Is, is}
 
 -- a part of a body is missing or has its one length

@@ -3,15 +3,17 @@ use mathlib.Core.Path.{_≡_, refl, ap}
 use mathlib.Core.List.{List, [], _∷_}
 use Prim.Native.Nat.{ℕ, zero, suc, _+_, _≤_}
 use native.Mathlib.Omega.{arith}
+use lib.Dec.{eqb}
 use lib.ListN.{length, drop, length-drop}
-use Rattle.list.specs.Reading.{readOf}
-use Rattle.list.specs.Checking.{Found, found, following, cutFrom, cut}
+use Rattle.words.specs.Test.{if_then_else_}
+use Rattle.list.specs.Reading.{readOf, whenWhole}
+use Rattle.list.specs.Checking.{Found, found, cutFrom, cut}
 use Rattle.list.specs.declared.records.Read.{Read}
 use Rattle.list.specs.declared.records.Read.the-variants.{Nothing, Unknown, Short, Whole}
 use Rattle.list.proofs.Tails.{within-tail}
 
 bounds : (n m at : ℕ) (t : List ℕ) → length t ≤ n → length t ≤ m → cutFrom n at t ≡ cutFrom m at t
-unfolding cutFrom following readOf
+unfolding cutFrom whenWhole
 bounds zero zero at t h k = refl
 bounds zero (suc m) at [] h k = refl
 bounds zero (suc m) at (x ∷ xs) h k = absurd (omega arith)
@@ -20,7 +22,8 @@ bounds (suc n) zero at (x ∷ xs) h k = absurd (omega arith)
 bounds (suc n) (suc m) at t h k = go (λ at u. bounds n m at u) (readOf t) refl
   where
     go : ((at : ℕ) (u : List ℕ) → length u ≤ n → length u ≤ m → cutFrom n at u ≡ cutFrom m at u) → (read : Read) → readOf t ≡ read
-        → following at read (λ r. cutFrom n (at + r .size) (drop (r .size) t)) ≡ following at read (λ r. cutFrom m (at + r .size) (drop (r .size) t))
+        → (if eqb (length t) 0 then [] else found at read ∷ whenWhole read (λ r. cutFrom n (at + r .size) (drop (r .size) t)) [])
+        ≡ (if eqb (length t) 0 then [] else found at read ∷ whenWhole read (λ r. cutFrom m (at + r .size) (drop (r .size) t)) [])
     go ih Nothing q = refl
     go ih Unknown q = refl
     go ih Short q = refl
@@ -28,7 +31,7 @@ bounds (suc n) (suc m) at t h k = go (λ at u. bounds n m at u) (readOf t) refl
         let s = within-tail t r q in
         let a : length (drop (r .size) t) ≤ n = omega (arith, length-drop (r .size) t) in
         let b : length (drop (r .size) t) ≤ m = omega (arith, length-drop (r .size) t) in
-        ap (λ (fs : List Found). found at (Whole r) ∷ fs) (ih (at + r .size) (drop (r .size) t) a b)
+        ap (λ (fs : List Found). if eqb (length t) 0 then [] else found at (Whole r) ∷ fs) (ih (at + r .size) (drop (r .size) t) a b)
 
 pub enough : (list : List ℕ) (n : ℕ) → length list ≤ n → cutFrom n 0 list ≡ cut list
 unfolding cut

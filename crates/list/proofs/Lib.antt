@@ -1,4 +1,4 @@
-pub mod Lengths
+pub mod Bodies
 pub mod Tails
 pub mod Rising
 pub mod Marks

@@ -5,11 +5,11 @@ use Rattle.words.specs.Lines.{line}
 use Rattle.words.specs.Number.{numberFrom, within, numberAt}
 use Rattle.words.specs.Realm.{zeroRealm, unknownRealm, realmAt, sameRealm, lessRealm}
 use Rattle.list.specs.Kind.{body, bodies, bodyOf, bodyLength, size, isKnown, isForeign, wantsMask}
-use Rattle.list.specs.Reading.{recordOf, readAs, readOf}
+use Rattle.list.specs.Reading.{recordOf, readAs, readOf, whenWhole}
 use Rattle.list.specs.Fault.{begins, noRecord, rises, isForbidden, fault, lacksControl, endFault}
-use Rattle.list.specs.Checking.{found, following, cutFrom, cut, placed, withWhole, wholes, records, refusedAt, passed, faultsAfter, has, seenIn, checkSays}
+use Rattle.list.specs.Checking.{found, cutFrom, cut, placed, wholes, records, refusedAt, passed, faultsAfter, has, seenIn, checkSays}
 
 -- one name that opens every definition, for what is computed
 unfoldable pub all : Unit {0}
-unfolding anyOf andThen line numberFrom within numberAt zeroRealm unknownRealm realmAt sameRealm lessRealm body bodies bodyOf bodyLength size isKnown isForeign wantsMask recordOf readAs readOf noRecord rises isForbidden fault lacksControl endFault begins found following cutFrom cut placed withWhole wholes records refusedAt passed faultsAfter has seenIn checkSays
+unfolding anyOf andThen line numberFrom within numberAt zeroRealm unknownRealm realmAt sameRealm lessRealm body bodies bodyOf bodyLength size isKnown isForeign wantsMask recordOf readAs readOf whenWhole noRecord rises isForbidden fault lacksControl endFault begins found cutFrom cut placed wholes records refusedAt passed faultsAfter has seenIn checkSays
 all = tt

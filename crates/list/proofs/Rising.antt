@@ -1,20 +1,12 @@
 -- The order of two records by the tests that the code makes. Assumes nothing.
 use mathlib.Core.Path.{_≡_, sym}
-use mathlib.Core.Bool.{Bool, false, or-false}
-use Prim.Native.Nat.{ℕ}
-use native.Mathlib.Nat.{le-of-eq}
-use borrow.Author.Tests.{eq-eqb, ne-eqb, le-ltb}
+use mathlib.Core.Bool.{false}
+use borrow.Author.Tests.{eq-eqb, ne-eqb}
 use lib.Dec.{ltb}
 use Rattle.words.specs.Realm.{lessRealm}
-use Rattle.words.specs.Number.{less}
+use Rattle.words.proofs.Order.{apart, tied}
 use Rattle.list.specs.Fault.{rises}
 use Rattle.list.specs.declared.records.Record.{Record}
-
-pub apart : (a b : ℕ) (lower : Bool) → (a ≡ b → ⊥) → less a b lower ≡ ltb a b
-apart a b lower n = simp (ne-eqb a b n, or-false)
-
-pub tied : (a b : ℕ) (lower : Bool) → a ≡ b → less a b lower ≡ lower
-tied a b lower e = simp (eq-eqb a b e, le-ltb a b (le-of-eq (sym e)))
 
 module _ (p e : Record) where
   pub by-kind : (p .kind ≡ e .kind → ⊥) → ltb (p .kind) (e .kind) ≡ rises p e

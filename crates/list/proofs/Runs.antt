@@ -14,10 +14,10 @@ use lib.Seq.{drop-drop}
 use Rattle.words.specs.Test.{if_then_else_, anyOf}
 use Rattle.words.specs.Bit.{bit}
 use Rattle.words.specs.Said.{Said, done, refused, andThen}
-use Rattle.list.specs.Reading.{readOf}
+use Rattle.list.specs.Reading.{readOf, whenWhole}
 use Rattle.list.specs.Fault.{begins, fault, Seen, endFault}
-use Rattle.list.specs.Walking.{markOf, seenOf, startOf, walkAfter, refusedOr, onward, heard, stepOf, Steps}
-use Rattle.list.specs.Checking.{Found, found, following, cutFrom, cut, Placed, placed, withWhole, wholes, records, refusedAt, passed, faultsAfter, has, seenIn, checkSays}
+use Rattle.list.specs.Walking.{markOf, seenOf, startOf, walkAfter, refusedOr, heard, stepOf, Steps}
+use Rattle.list.specs.Checking.{Found, found, cutFrom, cut, Placed, placed, wholes, records, refusedAt, passed, faultsAfter, has, seenIn, checkSays}
 use Rattle.list.specs.declared.records.Record.{Record}
 use Rattle.list.specs.declared.records.Read.{Read}
 use Rattle.list.specs.declared.records.Read.the-variants.{Nothing, Unknown, Short, Whole}
@@ -35,10 +35,6 @@ seeing-none : (s : Seen) → seeing s [] ≡ s
 unfolding seeing joined seenIn has anyOf
 seeing-none s = simp or-false
 
-seeing-all : (rs : List Placed) → seeing (seenOf 0) rs ≡ seenIn rs
-unfolding seeing joined seenOf bit
-seeing-all rs = refl
-
 one-more : (a t h : Bool) → (a || cond t true h) ≡ ((a || t) || h)
 one-more true t h = refl
 one-more false true h = refl
@@ -49,7 +45,7 @@ unfolding seeing joined of seenIn has anyOf placed
 seeing-more marks at r rs = rw (marked marks r) (simp one-more)
 
 wholes-whole : (at : ℕ) (r : Record) (fs : List Found) → wholes (found at (Whole r) ∷ fs) ≡ placed at r ∷ wholes fs
-unfolding wholes withWhole found placed
+unfolding wholes whenWhole found placed
 wholes-whole at r fs = refl
 
 -- the list from the walk's place on, by at most n records
@@ -83,12 +79,15 @@ Turn n w l (Refused number place) = restSays w l (rest n w l) ≡ refused number
 Turn n w l End = Over n w l
 
 rest-none : (n : ℕ) (w : Walk) (l : List ℕ) → length l ≤ w .at → rest n w l ≡ []
-unfolding rest cutFrom following readOf
+unfolding rest cutFrom
 rest-none n w l h = rw (drop-of-length-le l h) (go n)
   where
     go : (n : ℕ) → cutFrom n (w .at) [] ≡ []
     go zero = refl
     go (suc n) = refl
+
+some-left : (w : Walk) (l : List ℕ) → w .at < length l → eqb (length (drop (w .at) l)) 0 ≡ false
+some-left w l h = ne-eqb (length (drop (w .at) l)) 0 (λ q. omega (arith, length-drop (w .at) l))
 
 module _ (w : Walk) (l : List ℕ) (short : ltb 4096 (length l) ≡ false) (begun : (eqb (w .at) 0 && not (begins l)) ≡ false) where
   says-none : restSays w l [] ≡ refusedAt (length l) (endFault (seenOf (w .marks)))
@@ -114,16 +113,19 @@ module _ (w : Walk) (l : List ℕ) (short : ltb 4096 (length l) ≡ false) (begu
     next : Walk
     next = walkAfter w r
 
+    here : w .at < length l
+    here = omega (arith, length-drop (w .at) l, within-tail (drop (w .at) l) r read)
+
     cuts-whole : rest (suc m) w l ≡ found (w .at) (Whole r) ∷ rest m next l
-    unfolding rest cutFrom following next walkAfter
-    cuts-whole = simp (read, drop-drop)
+    unfolding rest cutFrom whenWhole next walkAfter
+    cuts-whole = simp (some-left w l here, read, drop-drop)
 
     not-begin : eqb (next .at) 0 ≡ false
     unfolding next walkAfter
     not-begin = ne-eqb (w .at + r .size) 0 (λ q. omega (arith, within-tail (drop (w .at) l) r read))
 
     says-next : eqb (fault (w .home) (w .earlier) (Whole r)) 0 ≡ true → restSays w l (rest (suc m) w l) ≡ restSays next l (rest m next l)
-    unfolding restSays faultsAfter refusedAt andThen passed found next walkAfter
+    unfolding restSays faultsAfter refusedAt andThen passed whenWhole found next walkAfter
     says-next q = rw cuts-whole (simp (short, begun, not-begin, q, wholes-whole, seeing-more))
 
     passes : length l - w .at ≤ suc m → eqb (fault (w .home) (w .earlier) (Whole r)) 0 ≡ true → Onward (suc m) w l r (walkAfter w r)
@@ -141,7 +143,7 @@ module _ (w : Walk) (l : List ℕ) (short : ltb 4096 (length l) ≡ false) (begu
         }
 
     whole-turn : length l - w .at ≤ suc m → Turn (suc m) w l (heard w (Whole r))
-    unfolding Turn heard refusedOr onward found
+    unfolding Turn heard refusedOr whenWhole found
     whole-turn h = go (eqb (fault (w .home) (w .earlier) (Whole r)) 0) refl
       where
         go : (b : Bool) → eqb (fault (w .home) (w .earlier) (Whole r)) 0 ≡ b
@@ -150,11 +152,11 @@ module _ (w : Walk) (l : List ℕ) (short : ltb 4096 (length l) ≡ false) (begu
         go false q = refused-here (suc m) (found (w .at) (Whole r)) (rest m next l) cuts-whole (fault (w .home) (w .earlier) (Whole r)) refl q
 
   heard-turn : (n : ℕ) → length l - w .at ≤ n → w .at < length l → (read : Read) → readOf (drop (w .at) l) ≡ read → Turn n w l (heard w read)
-  unfolding Turn heard refusedOr rest cutFrom following fault found
+  unfolding Turn heard refusedOr rest cutFrom whenWhole fault found
   heard-turn zero h k read q = absurd (omega arith)
   heard-turn (suc m) h k Nothing q = absurd (omega (arith, length-drop (w .at) l, empty (drop (w .at) l) q))
-  heard-turn (suc m) h k Unknown q = refused-here (suc m) (found (w .at) Unknown) [] (simp q) 12 refl refl
-  heard-turn (suc m) h k Short q = refused-here (suc m) (found (w .at) Short) [] (simp q) 13 refl refl
+  heard-turn (suc m) h k Unknown q = refused-here (suc m) (found (w .at) Unknown) [] (simp (some-left w l k, q)) 12 refl refl
+  heard-turn (suc m) h k Short q = refused-here (suc m) (found (w .at) Short) [] (simp (some-left w l k, q)) 13 refl refl
   heard-turn (suc m) h k (Whole r) q = whole-turn m r q h
 
 -- what a step does, whatever it gives
@@ -170,25 +172,32 @@ turn n w l h = go (ltb 4096 (length l)) (eqb (w .at) 0 && not (begins l)) (leb (
     go false false false p q k = heard-turn w l p q n h (leb-false (length l) (w .at) k) (readOf (drop (w .at) l)) refl
 
 -- a loop over the walk that has come to w and gathered a, from `first`, by f
-module _ {A : Type 0} (f : A → Placed → A) where
-  pub record Leads (l : List ℕ) (first a : A) (w : Walk) : Type 0 where
-    fuel : ℕ
-    enough : length l - w .at ≤ fuel
-    says : checkSays l ≡ restSays w l (rest fuel w l)
-    gathers : foldl f first (records l) ≡ foldl f a (wholes (rest fuel w l))
+pub record Leads {A : Type 0} (f : A → Placed → A) (l : List ℕ) (first a : A) (w : Walk) : Type 0 where
+  fuel : ℕ
+  enough : length l - w .at ≤ fuel
+  says : checkSays l ≡ restSays w l (rest fuel w l)
+  gathers : foldl f first (records l) ≡ foldl f a (wholes (rest fuel w l))
 
-  pub starts : (l : List ℕ) (a : A) → Leads l a a (startOf l)
-  unfolding checkSays restSays rest records cut startOf seeing joined seenOf bit
-  starts l a = record { fuel = length l; enough = omega arith; says = refl; gathers = refl }
+-- a loop that gathers nothing
+abbrev pub keep : Unit {0} → Placed → Unit {0}
+keep a p = a
 
-  module _ (l : List ℕ) (first a : A) (w : Walk) (s : Step) (stepped : Steps w l s) (so-far : Leads l first a w) where
-    turned : Turn (so-far .fuel) w l s
-    turned = rw (stepped .answer) (turn (so-far .fuel) w l (so-far .enough))
+pub starts : {A : Type 0} (f : A → Placed → A) (l : List ℕ) (a : A) → Leads f l a a (startOf l)
+unfolding checkSays restSays rest records cut startOf seeing joined seenOf bit
+starts f l a = record { fuel = length l; enough = omega arith; says = refl; gathers = refl }
 
-    pub goes : (r : Record) (v : Walk) → s ≡ Next r v → Leads l first (f a (placed (w .at) r)) v
+module _ {A : Type 0} {f : A → Placed → A} {l : List ℕ} {first a : A} {w : Walk} {s : Step} (stepped : Steps w l s) (so-far : Leads f l first a w) where
+  turned : Turn (so-far .fuel) w l s
+  turned = rw (stepped .answer) (turn (so-far .fuel) w l (so-far .enough))
+
+  module _ {r : Record} {v : Walk} (q : s ≡ Next r v) where
+    onward : Onward (so-far .fuel) w l r v
     unfolding Turn
-    goes r v q =
-        let t : Onward (so-far .fuel) w l r v = rw q at turned in
+    onward = rw q at turned
+
+    pub goes : Leads f l first (f a (placed (w .at) r)) v
+    goes =
+        let t = onward in
         record {
           fuel = t .fuel;
           enough = t .enough;
@@ -197,22 +206,23 @@ module _ {A : Type 0} (f : A → Placed → A) where
         }
 
     -- the record lies within the list
-    pub inside : (r : Record) (v : Walk) → s ≡ Next r v → w .at + r .size ≤ length l
-    unfolding Turn
-    inside r v q = let t : Onward (so-far .fuel) w l r v = rw q at turned in t .inside
+    pub inside : w .at + r .size ≤ length l
+    inside = onward .inside
 
-    pub falls : (r : Record) (v : Walk) → s ≡ Next r v → length l - v .at < length l - w .at
-    unfolding Turn
-    falls r v q = let t : Onward (so-far .fuel) w l r v = rw q at turned in omega (arith, t .moved, t .some, t .inside)
+    pub falls : length l - v .at < length l - w .at
+    falls = let t = onward in omega (arith, t .moved, t .some, t .inside)
 
-    pub refuses : (number place : ℕ) → s ≡ Refused number place → checkSays l ≡ refused number (place ∷ [])
-    unfolding Turn
-    refuses number place q = so-far .says ∙ rw q at turned
+  pub refuses : {number place : ℕ} → s ≡ Refused number place → checkSays l ≡ refused number (place ∷ [])
+  unfolding Turn
+  refuses q = so-far .says ∙ rw q at turned
 
-    pub passes-all : s ≡ End → checkSays l ≡ done []
-    unfolding Turn
-    passes-all q = let t : Over (so-far .fuel) w l = rw q at turned in so-far .says ∙ t .says
+  over : s ≡ End → Over (so-far .fuel) w l
+  unfolding Turn
+  over q = rw q at turned
 
-    pub gathers-all : s ≡ End → a ≡ foldl f first (records l)
-    unfolding Turn wholes
-    gathers-all q = let t : Over (so-far .fuel) w l = rw q at turned in sym (so-far .gathers ∙ rw (t .cuts) refl)
+  pub passes-all : s ≡ End → checkSays l ≡ done []
+  passes-all q = so-far .says ∙ over q .says
+
+  pub gathers-all : s ≡ End → a ≡ foldl f first (records l)
+  unfolding wholes
+  gathers-all q = sym (so-far .gathers ∙ rw (over q .cuts) refl)

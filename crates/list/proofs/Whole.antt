@@ -35,20 +35,20 @@ module _ (l : List ℕ) where
           → (s : Step) → stepOf w l ≡ s → Said-and-met l so-far (meeting (w .at) s (λ v. runFrom n v l))
       go later (Next r v) q =
           let stepped : Steps w l (Next r v) = record { answer = sym q } in
-          let f = falls met-too l [] so-far w (Next r v) stepped leads r v refl in
-          let rest = later v (so-far ++ (placed (w .at) r ∷ [])) (omega arith) (goes met-too l [] so-far w (Next r v) stepped leads r v refl) in
+          let f = falls stepped leads refl in
+          let rest = later v (so-far ++ (placed (w .at) r ∷ [])) (omega arith) (goes stepped leads refl) in
           record { said = rest .said; met = λ d. sym (append-assoc so-far (placed (w .at) r ∷ []) _) ∙ rest .met d }
       go later (Refused number place) q =
           let stepped : Steps w l (Refused number place) = record { answer = sym q } in
           record {
-            said = sym (refuses met-too l [] so-far w (Refused number place) stepped leads number place refl);
+            said = sym (refuses stepped leads refl);
             met = λ d. let z : _≡_ {A = ℕ} 0 1 = cc in absurd (omega arith);
           }
       go later End q =
           let stepped : Steps w l End = record { answer = sym q } in
           record {
-            said = sym (passes-all met-too l [] so-far w End stepped leads refl);
-            met = λ d. append-nil so-far ∙ gathers-all met-too l [] so-far w End stepped leads refl ∙ all-met [] (records l);
+            said = sym (passes-all stepped leads refl);
+            met = λ d. append-nil so-far ∙ gathers-all stepped leads refl ∙ all-met [] (records l);
           }
 
   whole : Said-and-met l [] (run l)

@@ -10,11 +10,10 @@ use Rattle.words.specs.Said.{Said, done, refused, andThen}
 use Rattle.words.specs.Realm.{realmAt}
 use Rattle.words.specs.declared.realm.Realm.{Realm}
 use Rattle.list.specs.Kind.{wantsMask}
-use Rattle.list.specs.Reading.{readOf}
+use Rattle.list.specs.Reading.{readOf, whenWhole}
 use Rattle.list.specs.Fault.{begins, noRecord, fault, lacksControl, Seen, endFault}
 use Rattle.list.specs.declared.records.Record.{Record}
 use Rattle.list.specs.declared.records.Read.{Read}
-use Rattle.list.specs.declared.records.Read.the-variants.{Nothing, Unknown, Short, Whole}
 use Rattle.list.specs.declared.verdict.Verdict.{Verdict}
 use Rattle.list.specs.declared.verdict.Verdict.the-variants.{Fine, Refused}
 
@@ -26,17 +25,12 @@ pub record Found : Type 0 where
 unfoldable pub found : ℕ → Read → Found
 found at read = record { at = at; read = read }
 
--- what is read at a place, and after a whole record what follows it
-unfoldable pub following : ℕ → Read → (Record → List Found) → List Found
-following at Nothing rest = []
-following at Unknown rest = found at Unknown ∷ []
-following at Short rest = found at Short ∷ []
-following at (Whole r) rest = found at (Whole r) ∷ rest r
-
--- a tail that begins at a place, record by record; the first number bounds how many they are
+-- what is read from a tail that begins at a place, one record after the other; the first number bounds how many they are
 unfoldable pub cutFrom : ℕ → ℕ → List ℕ → List Found
 cutFrom zero at tail = []
-cutFrom (suc n) at tail = following at (readOf tail) (λ r. cutFrom n (at + r .size) (drop (r .size) tail))
+cutFrom (suc n) at tail =
+    if eqb (length tail) 0 then [] else
+    found at (readOf tail) ∷ whenWhole (readOf tail) (λ r. cutFrom n (at + r .size) (drop (r .size) tail)) []
 
 -- a record has a byte at least, so there are no more of them than bytes
 unfoldable pub cut : List ℕ → List Found
@@ -50,15 +44,10 @@ pub record Placed : Type 0 where
 unfoldable pub placed : ℕ → Record → Placed
 placed at r = record { at = at; it = r }
 
-unfoldable pub withWhole : ℕ → Read → List Placed → List Placed
-withWhole at Nothing rest = rest
-withWhole at Unknown rest = rest
-withWhole at Short rest = rest
-withWhole at (Whole r) rest = placed at r ∷ rest
-
+-- those that are whole
 unfoldable pub wholes : List Found → List Placed
 wholes [] = []
-wholes (f ∷ fs) = withWhole (f .at) (f .read) (wholes fs)
+wholes (f ∷ fs) = let rest = wholes fs in whenWhole (f .read) (λ r. placed (f .at) r ∷ rest) rest
 
 -- the records of a list with their places
 unfoldable pub records : List ℕ → List Placed
@@ -70,10 +59,7 @@ refusedAt place number = if eqb number 0 then done [] else refused number (place
 
 -- the record that the next one is compared with
 unfoldable pub passed : Read → Record
-passed Nothing = noRecord
-passed Unknown = noRecord
-passed Short = noRecord
-passed (Whole r) = r
+passed read = whenWhole read (λ r. r) noRecord
 
 -- each record from the left: the first that earns a refusal
 unfoldable pub faultsAfter : Realm → Record → List Found → Said
@@ -81,6 +67,7 @@ faultsAfter home earlier [] = done []
 faultsAfter home earlier (f ∷ fs) =
     andThen (refusedAt (f .at) (fault home earlier (f .read))) (faultsAfter home (passed (f .read)) fs)
 
+-- some record passes the test
 unfoldable pub has : (Record → Bool) → List Placed → Bool
 has test = anyOf (λ p. test (p .it))
 

@@ -34,6 +34,14 @@ readAs kind tail =
 unfoldable pub readOf : List ℕ → Read
 readOf tail = if eqb (length tail) 0 then Nothing else readAs (getD tail 0 0) tail
 
+-- what follows from a whole record, or what stands in its place where there is none
+module _ {A : Type 0} where
+  unfoldable pub whenWhole : Read → (Record → A) → A → A
+  whenWhole Nothing follows other = other
+  whenWhole Unknown follows other = other
+  whenWhole Short follows other = other
+  whenWhole (Whole r) follows other = follows r
+
 -- reading one record
 pub record ReadsRecord (tail : List ℕ) (r : Read) : Type 0 where
   pub answer : r ≡ readOf tail

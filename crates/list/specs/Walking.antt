@@ -11,12 +11,11 @@ use Rattle.words.specs.Said.{Said, done, refused}
 use Rattle.words.specs.Bit.{bit}
 use Rattle.words.specs.Realm.{realmAt}
 use Rattle.list.specs.Kind.{wantsMask}
-use Rattle.list.specs.Reading.{readOf}
+use Rattle.list.specs.Reading.{readOf, whenWhole}
 use Rattle.list.specs.Fault.{begins, noRecord, fault, lacksControl, Seen, endFault}
 use Rattle.list.specs.Checking.{Placed, placed}
 use Rattle.list.specs.declared.records.Record.{Record}
 use Rattle.list.specs.declared.records.Read.{Read}
-use Rattle.list.specs.declared.records.Read.the-variants.{Nothing, Unknown, Short, Whole}
 use Rattle.list.specs.declared.walk.Walk.{Walk}
 use Rattle.list.specs.declared.walk.Step.{Step}
 use Rattle.list.specs.declared.walk.Step.the-variants.{Next, Refused, End}
@@ -60,15 +59,10 @@ walkAfter walk r = record {
 unfoldable pub refusedOr : ℕ → ℕ → Step → Step
 refusedOr number place step = if eqb number 0 then step else Refused number place
 
-unfoldable pub onward : Walk → Read → Step
-onward walk Nothing = End
-onward walk Unknown = End
-onward walk Short = End
-onward walk (Whole r) = Next r (walkAfter walk r)
-
 -- what is read at the walk's place
 unfoldable pub heard : Walk → Read → Step
-heard walk read = refusedOr (fault (walk .home) (walk .earlier) read) (walk .at) (onward walk read)
+heard walk read =
+    refusedOr (fault (walk .home) (walk .earlier) read) (walk .at) (whenWhole read (λ r. Next r (walkAfter walk r)) End)
 
 unfoldable pub stepOf : Walk → List ℕ → Step
 stepOf walk list =

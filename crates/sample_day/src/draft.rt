@@ -4,7 +4,7 @@ pub struct Draft {
     pub len: usize,
 }
 
-pub fn empty() -> Draft {
+pub(crate) fn empty() -> Draft {
     Draft {
         bytes: [0u8; 128],
         len: 0,
@@ -12,26 +12,26 @@ pub fn empty() -> Draft {
 }
 
 // A header and the default realm, sixteen times one byte.
-pub fn headed(realm: u8) -> Draft {
+pub(crate) fn headed(realm: u8) -> Draft {
     empty().byte(1).sixteen(realm)
 }
 
 // Realm R and what every list has: user_obj, group_obj, other_obj.
-pub fn plain() -> Draft {
+pub(crate) fn plain() -> Draft {
     headed(17).object(2, 15).object(3, 5).object(4, 4)
 }
 
 // The same with mask_obj.
-pub fn objects() -> Draft {
+pub(crate) fn objects() -> Draft {
     plain().object(5, 3)
 }
 
-pub fn list_e() -> Draft {
+pub(crate) fn list_e() -> Draft {
     objects().named(7, 7, 7)
 }
 
 impl Draft {
-    pub fn byte(self, b: u8) -> Draft {
+    pub(crate) fn byte(self, b: u8) -> Draft {
         let at = self.len;
         if 128 <= at {
             return self;
@@ -46,12 +46,12 @@ impl Draft {
         self.byte(b).byte(b).byte(b).byte(b)
     }
 
-    pub fn sixteen(self, b: u8) -> Draft {
+    pub(crate) fn sixteen(self, b: u8) -> Draft {
         self.four(b).four(b).four(b).four(b)
     }
 
     // 255, 255, 255, 254 and twelve zeroes.
-    pub fn unknown_realm(self) -> Draft {
+    pub(crate) fn unknown_realm(self) -> Draft {
         self.byte(255)
             .byte(255)
             .byte(255)
@@ -70,27 +70,27 @@ impl Draft {
     }
 
     // Kinds 2 to 6.
-    pub fn object(self, kind: u8, rights: u8) -> Draft {
+    pub(crate) fn object(self, kind: u8, rights: u8) -> Draft {
         self.byte(kind).byte(rights)
     }
 
     // Kinds 7 and 8.
-    pub fn named(self, kind: u8, id: u32, rights: u8) -> Draft {
+    pub(crate) fn named(self, kind: u8, id: u32, rights: u8) -> Draft {
         self.byte(kind).id(id).byte(rights)
     }
 
     // Kinds 9 and 10.
-    pub fn foreign(self, kind: u8, realm: u8, id: u32, rights: u8) -> Draft {
+    pub(crate) fn foreign(self, kind: u8, realm: u8, id: u32, rights: u8) -> Draft {
         self.byte(kind).sixteen(realm).id(id).byte(rights)
     }
 
     // Kind 11.
-    pub fn foreign_other(self, realm: u8, rights: u8) -> Draft {
+    pub(crate) fn foreign_other(self, realm: u8, rights: u8) -> Draft {
         self.byte(11).sixteen(realm).byte(rights)
     }
 
     // Without its last byte.
-    pub fn cut(self) -> Draft {
+    pub(crate) fn cut(self) -> Draft {
         let mut next = self;
         if 0 < next.len {
             next.len = next.len - 1;

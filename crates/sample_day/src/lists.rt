@@ -12,14 +12,14 @@ use list::Record;
 use list::Step;
 use list::Walk;
 
-pub fn paper() {
+pub(crate) fn paper() {
     check(b"list E", list_e());
     check(b"E without its last byte", list_e().cut());
     check(b"E without 5 3", plain().named(7, 7, 7));
     check(b"empty", empty());
 }
 
-pub fn paper_unstarred() {
+pub(crate) fn paper_unstarred() {
     check(b"header alone", headed(17));
     check(
         b"user_obj 7",
@@ -66,7 +66,7 @@ fn records_of(list: &[u8]) {
     }
 }
 
-pub fn records_of_e() {
+pub(crate) fn records_of_e() {
     let e = list_e();
     let bytes = e.bytes;
     records_of_first(&bytes, e.len);
@@ -78,21 +78,22 @@ fn records_of_first(list: &[u8], n: usize) {
     }
 }
 
-// 11 and 12.
-pub fn first_kinds() {
+// 11, and 13 for a lone 1.
+pub(crate) fn first_kinds() {
     check(b"first kind 0", empty().byte(0));
     check(b"first kind 200", empty().byte(200));
     check(b"a lone 1", empty().byte(1));
 }
 
-pub fn unknown_kinds() {
+// 12.
+pub(crate) fn unknown_kinds() {
     check(b"kind 12 after E", list_e().byte(12));
     check(b"kind 0 after E", list_e().byte(0));
     check(b"kind 255 after E", list_e().byte(255));
 }
 
 // 13.
-pub fn short_bodies() {
+pub(crate) fn short_bodies() {
     check(b"kind 7 cut after its kind", list_e().byte(7));
     check(
         b"a last record that just fits",
@@ -102,21 +103,21 @@ pub fn short_bodies() {
 }
 
 // 14, and 14 before 15.
-pub fn high_rights() {
+pub(crate) fn high_rights() {
     check(b"rights 63", objects().named(8, 1, 63));
     check(b"rights 64", objects().named(8, 1, 64));
     check(b"rights 64 out of order", objects().object(4, 64));
 }
 
 // 15.
-pub fn orders() {
+pub(crate) fn orders() {
     check(b"user 7 twice", list_e().named(7, 7, 0));
     check(b"user 6 after user 7", list_e().named(7, 6, 0));
     check(b"group 6 after user 7", list_e().named(8, 6, 0));
     check(b"mask_obj twice", objects().object(5, 3));
 }
 
-pub fn orders_of_ids() {
+pub(crate) fn orders_of_ids() {
     check(
         b"group 255, group 256",
         objects().named(8, 255, 1).named(8, 256, 1),
@@ -127,7 +128,7 @@ pub fn orders_of_ids() {
     );
 }
 
-pub fn orders_of_realms() {
+pub(crate) fn orders_of_realms() {
     check(
         b"realms before ids",
         objects().foreign(9, 18, 9, 1).foreign(9, 19, 2, 1),
@@ -147,7 +148,7 @@ pub fn orders_of_realms() {
 }
 
 // Kind 1 a second time: 15 whatever its realm, 13 where it is cut short.
-pub fn second_realms() {
+pub(crate) fn second_realms() {
     check(b"a second default realm", headed(17).byte(1).sixteen(18));
     check(b"the same realm again", headed(17).byte(1).sixteen(17));
     check(
@@ -161,12 +162,12 @@ pub fn second_realms() {
 }
 
 // 16.
-pub fn default_realms() {
+pub(crate) fn default_realms() {
     check(b"an unknown default realm", empty().byte(1).unknown_realm());
     check(b"a zero default realm", headed(0).object(2, 15));
 }
 
-pub fn foreign_at_home() {
+pub(crate) fn foreign_at_home() {
     check(
         b"foreign_user of the default realm",
         objects().foreign(9, 17, 1, 1),
@@ -181,7 +182,7 @@ pub fn foreign_at_home() {
     );
 }
 
-pub fn unknown_realms() {
+pub(crate) fn unknown_realms() {
     check(
         b"foreign_user of the unknown realm",
         objects().byte(9).unknown_realm().byte(0).sixteen(0),
@@ -197,7 +198,7 @@ pub fn unknown_realms() {
 }
 
 // 17.
-pub fn missing_objects() {
+pub(crate) fn missing_objects() {
     check(b"no user_obj", headed(17).object(3, 5).object(4, 4));
     check(b"no group_obj", headed(17).object(2, 15).object(4, 4));
     check(b"no other_obj", headed(17).object(2, 15).object(3, 5));
@@ -208,7 +209,7 @@ pub fn missing_objects() {
 }
 
 // 18.
-pub fn missing_masks() {
+pub(crate) fn missing_masks() {
     check(b"no mask_obj, none wanted", plain());
     check(b"any_other without mask_obj", plain().object(6, 0));
     check(
@@ -222,7 +223,7 @@ pub fn missing_masks() {
 }
 
 // 19.
-pub fn missing_control() {
+pub(crate) fn missing_control() {
     check(
         b"no control",
         headed(17).object(2, 55).object(3, 0).object(4, 0),
@@ -241,6 +242,7 @@ fn with_head(list: [u8; 8192]) -> [u8; 8192] {
     next
 }
 
+// A list of sevens has every user's kind and rights already.
 fn with_users(list: [u8; 8192]) -> [u8; 8192] {
     let mut next = list;
     let mut user: usize = 0;
@@ -256,7 +258,7 @@ fn with_users(list: [u8; 8192]) -> [u8; 8192] {
 }
 
 // 10. Header, objects, any_other and 678 users are 4,095 bytes, the longest list there is; more bytes of kind 7 follow.
-pub fn lengths() {
+pub(crate) fn lengths() {
     let list = with_users(with_head([7u8; 8192]));
     check_first(b"4,095 bytes", &list, 4095);
     check_first(b"4,094 bytes", &list, 4094);

@@ -4,24 +4,24 @@ use libc::STDOUT_FILENO;
 use list::Verdict;
 use list::check_list;
 
-pub fn text(words: &[u8]) {
+pub(crate) fn text(words: &[u8]) {
     io::write_all(STDOUT_FILENO, words);
 }
 
-pub fn number(n: u64) {
+pub(crate) fn number(n: u64) {
     io::print_decimal(STDOUT_FILENO, n);
 }
 
-fn refused(number_: u8, place: usize) {
+fn refused(refusal: u8, place: usize) {
     text(b"refused ");
-    number(number_ as u64);
+    number(refusal as u64);
     text(b" at ");
     number(place as u64);
     text(b"\n");
 }
 
 // What the check says of the first n bytes.
-pub fn check_first(name: &[u8], list: &[u8], n: usize) {
+pub(crate) fn check_first(name: &[u8], list: &[u8], n: usize) {
     if list.len() < n {
         return;
     }
@@ -33,7 +33,7 @@ pub fn check_first(name: &[u8], list: &[u8], n: usize) {
     }
 }
 
-pub fn check(name: &[u8], list: Draft) {
+pub(crate) fn check(name: &[u8], list: Draft) {
     let bytes = list.bytes;
     let n = list.len;
     check_first(name, &bytes, n);

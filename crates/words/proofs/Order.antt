@@ -1,8 +1,9 @@
 -- Comparing numbers is comparing their bytes. Assumes nothing.
 use mathlib.Core.Path.{_≡_, refl, sym, _∙_, ap}
 use mathlib.Core.List.{List, [], _∷_, _++_, append-assoc}
-use mathlib.Core.Bool.{Bool, true, false, _||_, _&&_}
+use mathlib.Core.Bool.{Bool, true, false, _&&_, and-false, or-false}
 use Prim.Native.Nat.{ℕ, suc, _+_, _*_, _/_, _%_, _^_, _≤_, _<_}
+use native.Mathlib.Nat.{le-of-eq}
 use native.Mathlib.Omega.{arith}
 use borrow.Author.Tests.{ltb-true, ltb-false, eqb-true, eqb-false, lt-ltb, le-ltb, le-leb, eq-eqb, ne-eqb}
 use lib.Arith.{digits-lt, digits-div, digits-mod}
@@ -21,16 +22,14 @@ less-lt a b r h = simp (lt-ltb a b h)
 less-gt : (a b : ℕ) (r : Bool) → b < a → less a b r ≡ false
 less-gt a b r h = let n : a ≡ b → ⊥ = λ e. omega arith in let g : b ≤ a = omega arith in simp (le-ltb a b g, ne-eqb a b n)
 
-pub less-same : (a : ℕ) (r : Bool) → less a a r ≡ r
-less-same a r = let g : a ≤ a = omega arith in simp (le-ltb a a g, eq-eqb a a refl)
+pub apart : (a b : ℕ) (lower : Bool) → (a ≡ b → ⊥) → less a b lower ≡ ltb a b
+apart a b lower n = simp (ne-eqb a b n, or-false)
+
+pub tied : (a b : ℕ) (lower : Bool) → a ≡ b → less a b lower ≡ lower
+tied a b lower e = simp (eq-eqb a b e, le-ltb a b (le-of-eq (sym e)))
 
 pub less-last : (a b : ℕ) → less a b false ≡ ltb a b
-less-last a b = go (ltb a b) (eqb a b)
-  where
-    go : (s t : Bool) → (s || (t && false)) ≡ s
-    go true t = refl
-    go false true = refl
-    go false false = refl
+less-last a b = simp (and-false, or-false)
 
 -- two pairs that are ordered alike
 alike : (a b c d : ℕ) (r : Bool) → (a < b → c < d) → (a ≡ b → c ≡ d) → (b < a → d < c) → less c d r ≡ less a b r
@@ -38,7 +37,7 @@ alike a b c d r f e g = go (ltb a b) (eqb a b) refl refl
   where
     go : (s t : Bool) → ltb a b ≡ s → eqb a b ≡ t → less c d r ≡ less a b r
     go true t h k = let l = ltb-true a b h in less-lt c d r (f l) ∙ sym (less-lt a b r l)
-    go false true h k = let q = eqb-true a b k in rw (← e q, ← q) (less-same c r ∙ sym (less-same a r))
+    go false true h k = let q = eqb-true a b k in rw (← e q, ← q) (tied c c r refl ∙ sym (tied a a r refl))
     go false false h k =
         let l : b < a = omega (arith, ltb-false a b h, eqb-false a b k) in
         less-gt c d r (g l) ∙ sym (less-gt a b r l)
@@ -53,7 +52,7 @@ digit p x y a b r ha hb = go (ltb x y) (eqb x y) refl refl
         less-lt (x * p + a) (y * p + b) r (omega (arith, digits-lt l ha)) ∙ sym (less-lt x y (less a b r) l)
     go false true h g =
         rw (← eqb-true x y g)
-        (alike a b (x * p + a) (x * p + b) r (λ h. omega arith) (λ h. omega arith) (λ h. omega arith) ∙ sym (less-same x (less a b r)))
+        (alike a b (x * p + a) (x * p + b) r (λ h. omega arith) (λ h. omega arith) (λ h. omega arith) ∙ sym (tied x x (less a b r) refl))
     go false false h g =
         let l : y < x = omega (arith, ltb-false x y h, eqb-false x y g) in
         less-gt (x * p + a) (y * p + b) r (omega (arith, digits-lt l hb)) ∙ sym (less-gt x y (less a b r) l)
@@ -62,7 +61,7 @@ digit p x y a b r ha hb = go (ltb x y) (eqb x y) refl refl
 pub numbers : (xs ys us vs : List ℕ) → length xs ≡ length ys → Bytes xs → Bytes ys
     → before (xs ++ us) (ys ++ vs) ≡ less (number xs) (number ys) (before us vs)
 unfolding before numberFrom
-numbers [] [] us vs e h k = sym (less-same 0 (before us vs))
+numbers [] [] us vs e h k = sym (tied 0 0 (before us vs) refl)
 numbers [] (y ∷ ys) us vs e h k = absurd (omega arith)
 numbers (x ∷ xs) [] us vs e h k = absurd (omega arith)
 numbers (x ∷ xs) (y ∷ ys) us vs e h k =

@@ -1,4 +1,4 @@
-use Rattle.list.proofs.Lengths.{foreign-told}
+use Rattle.list.proofs.Bodies.{foreign-told}
 use Rattle.list.proofs.kind.is_foreign.Statement.{statement}
 use Rattle.list.proofs.kind.is_foreign.Tie as tie
 

@@ -2,17 +2,13 @@ use mathlib.Core.Path.{sym}
 use Prim.Native.Nat.{_-_}
 use borrow.Author.Needs.{needs}
 use lib.ListN.{length}
-use Rattle.list.specs.Checking.{Placed, verdictSays}
-use Rattle.list.proofs.Runs
+use Rattle.list.specs.Checking.{verdictSays}
+use Rattle.list.proofs.Runs.{Leads, keep, starts, goes, falls, refuses, passes-all}
 use Rattle.list.proofs.verdict.check_list.Statement.{statement}
 use Rattle.list.proofs.verdict.check_list.Tie as tie
 
--- nothing is gathered
-abbrev keep : Unit {0} → Placed → Unit {0}
-keep a p = a
-
 abbrev Inv-loop : tie.InvT-loop
-Inv-loop list walk₀ walk = Runs.Leads keep list tt tt walk
+Inv-loop list walk₀ walk = Leads keep list tt tt walk
 
 abbrev μ-loop : tie.MeasureT-loop
 μ-loop list walk₀ walk = length list - walk .at
@@ -25,12 +21,12 @@ check-list-spec =
     Inv-loop
     μ-loop
     (λ c κs. search needs)
-    (λ c. rw (c .start .ensures .answer) (Runs.starts keep _ tt))
+    (λ c. rw (c .start .ensures .answer) (starts keep _ tt))
     (λ c κs. search needs)
     (λ c. search needs)
-    (λ c. Runs.falls keep _ tt tt _ _ (c .before .before .before .step .ensures) (c .before .before .before .before .loop .inv) _ _ (c .before .next .given .1))
-    (λ c. Runs.goes keep _ tt tt _ _ (c .before .before .before .step .ensures) (c .before .before .before .before .loop .inv) _ _ (c .before .next .given .1))
+    (λ c. falls (c .before .before .before .step .ensures) (c .before .before .before .before .loop .inv) (c .before .next .given .1))
+    (λ c. goes (c .before .before .before .step .ensures) (c .before .before .before .before .loop .inv) (c .before .next .given .1))
     (λ c. search needs)
-    (λ c. record { answer = sym (Runs.refuses keep _ tt tt _ _ (c .before .before .before .step .ensures) (c .before .before .before .before .loop .inv) _ _ (c .before .number .given .1)) })
+    (λ c. record { answer = sym (refuses (c .before .before .before .step .ensures) (c .before .before .before .before .loop .inv) (c .before .number .given .1)) })
     (λ c. search needs)
-    (λ c. record { answer = sym (Runs.passes-all keep _ tt tt _ _ (c .before .before .step .ensures) (c .before .before .before .loop .inv) (c .enum-told .given .1)) }))
+    (λ c. record { answer = sym (passes-all (c .before .before .step .ensures) (c .before .before .before .loop .inv) (c .enum-told .given .1)) }))

@@ -2,13 +2,14 @@ use mathlib.Core.Path.{sym, _∙_}
 use native.Mathlib.Omega.{arith}
 use borrow.Author.Needs.{needs}
 use Rattle.list.specs.Fault.{fault}
-use Rattle.list.specs.Walking.{heard, refusedOr, onward}
+use Rattle.list.specs.Reading.{whenWhole}
+use Rattle.list.specs.Walking.{heard, refusedOr}
 use Rattle.list.proofs.Tails.{within-tail}
 use Rattle.list.proofs.walk.Walk.hear.Statement.{statement}
 use Rattle.list.proofs.walk.Walk.hear.Tie as tie
 
 pub hear-spec : {M : Type 1} → statement M
-unfolding heard refusedOr onward fault
+unfolding heard refusedOr whenWhole fault
 hear-spec =
     tie.close
     (tie.spec

@@ -1,7 +1,7 @@
 use borrow.Author.Needs.{needs}
+use borrow.Rule.Slice.PartAt.{part-to-end}
 use borrow.Author.Tests.{lt-ltb, le-ltb, le-leb, lt-leb}
 use Rattle.list.specs.Walking.{stepOf}
-use Rattle.list.proofs.Tails.{rest}
 use Rattle.list.proofs.walk.Walk.step.Statement.{statement}
 use Rattle.list.proofs.walk.Walk.step.Tie as tie
 
@@ -19,4 +19,4 @@ step-spec =
     (λ c. search needs)
     (λ c. search needs)
     (λ c κs. search needs)
-    (λ c. record { answer = simp (le-ltb _ _ (c .before .before .before .before .before .if1 .left), ← c .before .before .before .before .is-unbegun .ensures, c .before .before .before .if2 .left, lt-leb _ _ (c .before .before .if3 .left), c .hear .ensures, rest) }))
+    (λ c. record { answer = simp (le-ltb _ _ (c .before .before .before .before .before .if1 .left), ← c .before .before .before .before .is-unbegun .ensures, c .before .before .before .if2 .left, lt-leb _ _ (c .before .before .if3 .left), c .hear .ensures, part-to-end) }))

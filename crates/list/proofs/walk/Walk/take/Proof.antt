@@ -1,11 +1,12 @@
 use borrow.Author.Needs.{needs}
 use borrow.Author.Tests.{eq-eqb, ne-eqb}
-use Rattle.list.specs.Walking.{heard, refusedOr, onward}
+use Rattle.list.specs.Reading.{whenWhole}
+use Rattle.list.specs.Walking.{heard, refusedOr}
 use Rattle.list.proofs.walk.Walk.take.Statement.{statement}
 use Rattle.list.proofs.walk.Walk.take.Tie as tie
 
 pub take-spec : {M : Type 1} → statement M
-unfolding heard refusedOr onward
+unfolding heard refusedOr whenWhole
 take-spec =
     tie.close
     (tie.spec

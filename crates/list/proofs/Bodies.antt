@@ -39,9 +39,9 @@ is-body b k t =
 unfoldable pub among : ℕ → Body → ℕ → Bool
 among lo b k = ltb k lo || bodyIs b k
 
-pub alike : (lo hi : ℕ) (b : Body) → everyBelow (suc hi) (among lo b) ≡ true → (k : ℕ) → lo ≤ k → k ≤ hi → bodyOf k ≡ b
+pub in-range : (lo hi : ℕ) (b : Body) → everyBelow (suc hi) (among lo b) ≡ true → (k : ℕ) → lo ≤ k → k ≤ hi → bodyOf k ≡ b
 unfolding among
-alike lo hi b t k l h = is-body b k (rw (le-ltb k lo l) at (below (suc hi) (among lo b) t k (omega arith)))
+in-range lo hi b t k l h = is-body b k (rw (le-ltb k lo l) at (below (suc hi) (among lo b) t k (omega arith)))
 
 pub beyond : (k : ℕ) → 11 < k → bodyOf k ≡ body 0 0 0
 unfolding bodyOf bodies
