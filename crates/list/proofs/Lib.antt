@@ -5,6 +5,7 @@ pub mod Marks
 pub mod Runs
 pub mod Whole
 pub mod Enough
+pub mod Places
 pub mod Bytewise
 pub mod Determined
 pub mod Opened

@@ -1,6 +1,8 @@
--- Both parts of a test that passed. Assumes nothing.
-use mathlib.Core.Path.{_≡_, refl}
-use mathlib.Core.Bool.{Bool, true, false, _&&_}
+-- Both parts of a test that passed; the elements that pass a test. Assumes nothing.
+use mathlib.Core.Path.{_≡_, refl, ap}
+use mathlib.Core.List.{List, [], _∷_, _++_}
+use mathlib.Core.Bool.{Bool, true, false, cond, _&&_}
+use Rattle.words.specs.Test.{those}
 
 pub and-left : (a b : Bool) → (a && b) ≡ true → a ≡ true
 and-left true b t = refl
@@ -10,3 +12,14 @@ pub and-right : (a b : Bool) → (a && b) ≡ true → b ≡ true
 and-right true b t = t
 and-right false true t = refl
 and-right false false t = t
+
+module _ {A : Type 0} (test : A → Bool) where
+  pub those-append : (xs ys : List A) → those test (xs ++ ys) ≡ those test xs ++ those test ys
+  unfolding those
+  those-append [] ys = refl
+  those-append (x ∷ xs) ys = go (test x) (those-append xs ys)
+    where
+      go : (b : Bool) → those test (xs ++ ys) ≡ those test xs ++ those test ys
+          → cond b (x ∷ those test (xs ++ ys)) (those test (xs ++ ys)) ≡ cond b (x ∷ those test xs) (those test xs) ++ those test ys
+      go true ih = ap (λ (zs : List A). x ∷ zs) ih
+      go false ih = ih

@@ -12,3 +12,8 @@ module _ {A : Type 0} where
   unfoldable pub anyOf : (A → Bool) → List A → Bool
   anyOf test [] = false
   anyOf test (x ∷ xs) = let rest = anyOf test xs in cond (test x) true rest
+
+  -- the elements that pass the test
+  unfoldable pub those : (A → Bool) → List A → List A
+  those test [] = []
+  those test (x ∷ xs) = let rest = those test xs in cond (test x) (x ∷ rest) rest

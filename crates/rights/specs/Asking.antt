@@ -1,0 +1,11 @@
+-- Who asks.
+use mathlib.Core.Bool.{Bool, _||_}
+use mathlib.Core.List.{List}
+use Prim.Native.Nat.{ℕ}
+use lib.Dec.{eqb}
+use Rattle.words.specs.Test.{anyOf}
+use Rattle.rights.specs.declared.asking.Caller.{Caller}
+
+-- a caller's groups are its primary group and the further ones
+unfoldable pub inGroup : Caller → List ℕ → ℕ → Bool
+inGroup caller groups id = eqb (caller .group) id || anyOf (λ (g : ℕ). eqb g id) groups

@@ -1,0 +1,6 @@
+pub mod Right
+pub mod Asking
+pub mod Steps
+pub mod Mode
+pub mod Deciding
+pub mod Tally

@@ -1,0 +1,86 @@
+// The decision by value: the core of the rights call.
+use crate::answer::Answer;
+use crate::answer::Found;
+use crate::answer::without_record;
+use crate::asking::Caller;
+use crate::asking::File;
+use crate::asking::Guard;
+use crate::mode::mode_rights;
+use crate::refusal::MODE_ABOVE_511;
+use crate::refusal::TOO_MANY_GROUPS;
+use crate::steps::step_of;
+use crate::tally::no_tally;
+use list::Step;
+use list::Walk;
+use list::refusal::FORBIDDEN_REALM;
+use words::Realm;
+use words::is_unknown;
+use words::same_realm;
+ghost use Rattle.rights.specs.Deciding.{byList, byMode, decided, Finds};
+
+const MOST_GROUPS: usize = 32;
+
+const HIGHEST_MODE: u32 = 511;
+
+// One pass makes the list's checks and finds what decides.
+fn by_list(list: &[u8], groups: &[u32], caller: Caller, file: File) -> Found
+    ensures { λ r. ⌜ Finds (byList (now (list .entry)) (now (groups .entry)) caller file) r ⌝ }
+{
+    let mut walk = Walk::start(list);
+    let home = same_realm(caller.realm, walk.home);
+    let mut tally = no_tally();
+    loop {
+        let at = walk.at;
+        match walk.step(list) {
+            Step::Next(r, next) => {
+                tally = tally.with(step_of(home, groups, caller, file, r), at, r);
+                walk = next;
+            }
+            Step::Refused { number, place } => {
+                return without_record(Answer::RefusedAt {
+                    number: number,
+                    place: place,
+                });
+            }
+            Step::End => {
+                return Found {
+                    answer: Answer::Rights(tally.allowed()),
+                    start: tally.start,
+                    size: tally.size,
+                };
+            }
+        }
+    }
+}
+
+fn by_mode(groups: &[u32], caller: Caller, file: File, local: Realm, mode: u32) -> Found
+    ensures { λ r. ⌜ Finds (byMode (now (groups .entry)) caller file local mode) r ⌝ }
+{
+    if is_unknown(local) {
+        return without_record(Answer::RefusedAt {
+            number: FORBIDDEN_REALM,
+            place: 0,
+        });
+    }
+    if HIGHEST_MODE < mode {
+        return without_record(Answer::Refused {
+            number: MODE_ABOVE_511,
+        });
+    }
+    without_record(Answer::Rights(mode_rights(groups, caller, file, local, mode)))
+}
+
+// The rights of a caller on a file under its guard, or the refusal; the list is looked at only if it is the guard.
+pub fn decide(list: &[u8], groups: &[u32], caller: Caller, file: File, guard: Guard) -> Found
+    ensures { λ r. ⌜ Finds (decided (now (list .entry)) (now (groups .entry)) caller file guard) r ⌝ }
+{
+    if MOST_GROUPS < groups.len() {
+        return without_record(Answer::Refused {
+            number: TOO_MANY_GROUPS,
+        });
+    }
+    match guard {
+        Guard::List => by_list(list, groups, caller, file),
+        Guard::Mode { realm, mode } => by_mode(groups, caller, file, realm, mode),
+    }
+}
