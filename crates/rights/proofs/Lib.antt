@@ -4,3 +4,8 @@ pub mod Counting
 pub mod Masking
 pub mod Passing
 pub mod Inside
+pub mod First
+pub mod Alike
+pub mod Determined
+pub mod Opened
+pub mod Day

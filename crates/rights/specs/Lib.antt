@@ -4,3 +4,4 @@ pub mod Steps
 pub mod Mode
 pub mod Deciding
 pub mod Tally
+pub mod Day

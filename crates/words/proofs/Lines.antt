@@ -1,7 +1,7 @@
 -- A table of cases holds if one computed test passes. Assumes nothing.
 use mathlib.Core.Path.{_≡_, refl, ap}
 use mathlib.Core.Bool.{Bool, true, false, _&&_}
-use mathlib.Core.List.{List, [], _∷_}
+use mathlib.Core.List.{List, [], _∷_, _++_}
 use Prim.Native.Nat.{ℕ}
 use native.Mathlib.Omega.{arith}
 use borrow.Author.Tests.{eqb-true}
@@ -51,3 +51,9 @@ unfolding allHold Hold
 by-test [] t = tt
 by-test (l ∷ ls) t =
     (said (l .got) (l .want) (and-left (sameSaid (l .got) (l .want)) (allHold ls) t), by-test ls (and-right (sameSaid (l .got) (l .want)) (allHold ls) t))
+
+-- two tables that hold are one that holds
+pub together : (ls ms : List Line) → Hold ls → Hold ms → Hold (ls ++ ms)
+unfolding Hold
+together [] ms h k = k
+together (l ∷ ls) ms h k = (h .0, together ls ms (h .1) k)

@@ -1,0 +1,43 @@
+-- Two outcomes that meet a statement are equal. Assumes nothing.
+use mathlib.Core.Path.{_≡_, refl, sym, _∙_, ap}
+use mathlib.Core.List.{List, [], _∷_}
+use Prim.Native.Nat.{ℕ}
+use denote.Ref.{RefT, now, ptr}
+use lib.ListN.{getD}
+use Rattle.words.specs.Said.{Said, done, refused}
+use Rattle.words.proofs.Determined.{same-answer}
+use Rattle.rights.specs.Deciding.{Decided, answerSays, Finds, Decides}
+use Rattle.rights.specs.declared.answer.Answer.{Answer}
+use Rattle.rights.specs.declared.answer.Answer.the-variants.{Rights, Refused, RefusedAt}
+use Rattle.rights.specs.declared.answer.Found.{Found}
+use Rattle.rights.specs.declared.decision.Decision.{Decision}
+
+-- the answer that says what was said
+unsaid : Said → Answer
+unsaid (done values) = Rights (getD values 0 0)
+unsaid (refused number []) = Refused number
+unsaid (refused number (place ∷ more)) = RefusedAt number place
+
+unsaid-said : (r : Answer) → unsaid (answerSays r) ≡ r
+unfolding unsaid answerSays
+unsaid-said (Rights rights) = refl
+unsaid-said (Refused number) = refl
+unsaid-said (RefusedAt number place) = refl
+
+same : {said : Said} (r r′ : Answer) → answerSays r ≡ said → answerSays r′ ≡ said → r ≡ r′
+same r r′ p q = same-answer answerSays unsaid unsaid-said r r′ p q
+
+abbrev found : Answer → ℕ → ℕ → Found
+found answer start size = record { answer = answer; start = start; size = size }
+
+pub decide-determined : (d : Decided) (r r′ : Found) → Finds d r → Finds d r′ → r ≡ r′
+decide-determined d r r′ p q =
+    ap (λ (x : Answer). found x (r .start) (r .size)) (same (r .answer) (r′ .answer) (p .answer) (q .answer))
+    ∙ ap (λ (x : ℕ). found (r′ .answer) x (r .size)) (p .start ∙ sym (q .start))
+    ∙ ap (λ (x : ℕ). found (r′ .answer) (r′ .start) x) (p .size ∙ sym (q .size))
+
+-- a part of the list is told by its bytes and its place
+pub rights-determined : (d : Decided) (list : RefT (List ℕ)) (r r′ : Decision) → Decides d list r → Decides d list r′
+    → (r .answer ≡ r′ .answer) × ((now (r .part) ≡ now (r′ .part)) × (ptr (r .part) ≡ ptr (r′ .part)))
+rights-determined d list r r′ p q =
+    (same (r .answer) (r′ .answer) (p .answer) (q .answer), (p .bytes ∙ sym (q .bytes), p .place ∙ sym (q .place)))
