@@ -6,6 +6,7 @@ pub mod Runs
 pub mod Whole
 pub mod Enough
 pub mod Places
+pub mod Passed
 pub mod Bytewise
 pub mod Determined
 pub mod Opened

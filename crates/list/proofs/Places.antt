@@ -7,24 +7,24 @@ use native.Mathlib.Omega.{arith}
 use lib.Dec.{eqb}
 use lib.ListN.{length, drop, length-drop}
 use Rattle.words.specs.Test.{if_then_else_}
+use Rattle.words.proofs.Tests.{Each}
 use Rattle.list.specs.Reading.{readOf, whenWhole}
 use Rattle.list.specs.Checking.{found, cutFrom, cut, Placed, placed, wholes, records}
 use Rattle.list.specs.declared.records.Read.{Read}
 use Rattle.list.specs.declared.records.Read.the-variants.{Nothing, Unknown, Short, Whole}
 use Rattle.list.proofs.Tails.{within-tail}
 
--- each of some records ends at n or before
-unfoldable pub Within : ℕ → List Placed → Type 0
-Within n [] = Unit {0}
-Within n (p ∷ ps) = (p .at + p .it .size ≤ n) × Within n ps
+-- a record ends at n or before
+abbrev pub EndsBy : ℕ → Placed → Type 0
+EndsBy n p = p .at + p .it .size ≤ n
 
-cut-within : (fuel at : ℕ) (t : List ℕ) (n : ℕ) → at + length t ≤ n → Within n (wholes (cutFrom fuel at t))
-unfolding Within wholes cutFrom whenWhole found placed
+cut-within : (fuel at : ℕ) (t : List ℕ) (n : ℕ) → at + length t ≤ n → Each (EndsBy n) (wholes (cutFrom fuel at t))
+unfolding Each wholes cutFrom whenWhole found placed
 cut-within zero at t n h = tt
 cut-within (suc fuel) at t n h = go (λ at u. cut-within fuel at u n) (eqb (length t) 0) (readOf t) refl
   where
-    go : ((at : ℕ) (u : List ℕ) → at + length u ≤ n → Within n (wholes (cutFrom fuel at u))) → (b : Bool) (read : Read) → readOf t ≡ read
-        → Within n (wholes (if b then [] else found at read ∷ whenWhole read (λ r. cutFrom fuel (at + r .size) (drop (r .size) t)) []))
+    go : ((at : ℕ) (u : List ℕ) → at + length u ≤ n → Each (EndsBy n) (wholes (cutFrom fuel at u))) → (b : Bool) (read : Read) → readOf t ≡ read
+        → Each (EndsBy n) (wholes (if b then [] else found at read ∷ whenWhole read (λ r. cutFrom fuel (at + r .size) (drop (r .size) t)) []))
     go ih true read q = tt
     go ih false Nothing q = tt
     go ih false Unknown q = tt
@@ -35,6 +35,6 @@ cut-within (suc fuel) at t n h = go (λ at u. cut-within fuel at u n) (eqb (leng
         let rest : at + r .size + length (drop (r .size) t) ≤ n = omega (arith, length-drop (r .size) t) in
         (here, ih (at + r .size) (drop (r .size) t) rest)
 
-pub records-within : (list : List ℕ) → Within (length list) (records list)
+pub records-within : (list : List ℕ) → Each (EndsBy (length list)) (records list)
 unfolding records cut
 records-within list = cut-within (length list) 0 list (length list) (omega arith)

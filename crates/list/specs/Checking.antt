@@ -1,5 +1,4 @@
 -- A whole list: its records with their places, and what the check says of it.
-use mathlib.Core.Path.{_≡_}
 use mathlib.Core.Bool.{Bool, not}
 use mathlib.Core.List.{List, [], _∷_}
 use Prim.Native.Nat.{ℕ, zero, suc, _+_}
@@ -14,8 +13,6 @@ use Rattle.list.specs.Reading.{readOf, whenWhole}
 use Rattle.list.specs.Fault.{begins, noRecord, fault, lacksControl, Seen, endFault}
 use Rattle.list.specs.declared.records.Record.{Record}
 use Rattle.list.specs.declared.records.Read.{Read}
-use Rattle.list.specs.declared.verdict.Verdict.{Verdict}
-use Rattle.list.specs.declared.verdict.Verdict.the-variants.{Fine, Refused}
 
 -- a place of a list and what is read there
 pub record Found : Type 0 where
@@ -89,12 +86,3 @@ checkSays list =
     if not (begins list) then refused 11 (0 ∷ []) else
     andThen (faultsAfter (realmAt 1 list) noRecord (cut list))
     (refusedAt (length list) (endFault (seenIn (records list))))
-
--- what each verdict says by 01's numbers
-unfoldable pub verdictSays : Verdict → Said
-verdictSays Fine = done []
-verdictSays (Refused number place) = refused number (place ∷ [])
-
--- checking a list
-pub record Checks (list : List ℕ) (r : Verdict) : Type 0 where
-  pub answer : verdictSays r ≡ checkSays list

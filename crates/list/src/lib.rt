@@ -1,15 +1,12 @@
-// The access list in bytes: a record, the walk from record to record, the check of a whole list.
+// The access list in bytes: a record, the walk from record to record, with all of a list's checks on the way.
 mod faults;
 pub mod kind;
 mod records;
 pub mod refusal;
-mod verdict;
 mod walk;
 
 pub use records::Read;
 pub use records::Record;
 pub use records::read_record;
-pub use verdict::Verdict;
-pub use verdict::check_list;
 pub use walk::Step;
 pub use walk::Walk;

@@ -6,7 +6,8 @@ use denote.Ref.{RefT, now, ptr}
 use lib.ListN.{getD}
 use Rattle.words.specs.Said.{Said, done, refused}
 use Rattle.words.proofs.Determined.{same-answer}
-use Rattle.rights.specs.Deciding.{Decided, answerSays, Finds, Decides}
+use Rattle.evaluate.specs.Evaluation.{Decided}
+use Rattle.rights.specs.Deciding.{answerSays, Finds, Decides}
 use Rattle.rights.specs.declared.answer.Answer.{Answer}
 use Rattle.rights.specs.declared.answer.Answer.the-variants.{Rights, Refused, RefusedAt}
 use Rattle.rights.specs.declared.answer.Found.{Found}

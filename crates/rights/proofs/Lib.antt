@@ -1,10 +1,4 @@
-pub mod Searching
-pub mod Serving
-pub mod Counting
-pub mod Masking
-pub mod Passing
 pub mod Inside
-pub mod First
 pub mod Alike
 pub mod Determined
 pub mod Opened

@@ -1,6 +1,6 @@
 -- The sample day's rights, and our own cases: each line is what is decided and what 01 says of it.
-use mathlib.Core.Bool.{true, false}
 use mathlib.Core.List.{List, [], _∷_, _++_}
+use mathlib.Core.Bool.{true, false}
 use Prim.Native.Nat.{ℕ}
 use lib.ListN.{take, replicate}
 use Rattle.words.specs.Said.{Said, done, refused}
@@ -8,10 +8,11 @@ use Rattle.words.specs.Lines.{Line, line}
 use Rattle.words.specs.Realm.{unknownRealm}
 use Rattle.words.specs.declared.realm.Realm.{Realm}
 use Rattle.list.specs.Day.{headerR, listE, day as listDay}
-use Rattle.rights.specs.Deciding.{Decided, decided}
-use Rattle.rights.specs.declared.asking.Caller.{Caller}
-use Rattle.rights.specs.declared.asking.File.{File}
-use Rattle.rights.specs.declared.asking.Guard.the-variants.{List as ByList, Mode}
+use Rattle.evaluate.specs.Evaluation.{Decided}
+use Rattle.evaluate.specs.declared.asking.Caller.{Caller}
+use Rattle.evaluate.specs.declared.asking.File.{File}
+use Rattle.rights.specs.Deciding.{decided}
+use Rattle.rights.specs.declared.guard.Guard.the-variants.{List as ByList, Mode}
 
 -- rights with the deciding record's place and length, or the refusal
 unfoldable pub shown : Said → ℕ → ℕ → Said

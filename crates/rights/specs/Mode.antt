@@ -1,6 +1,6 @@
 -- Rights from a local realm and a mode (12.16.1).
-use mathlib.Core.Bool.{Bool, not, _&&_}
 use mathlib.Core.List.{List}
+use mathlib.Core.Bool.{Bool, not, _&&_}
 use Prim.Native.Nat.{ℕ, _+_, _*_, _/_, _%_}
 use lib.Bits.{bitOr}
 use lib.Dec.{eqb}
@@ -8,10 +8,10 @@ use Rattle.words.specs.Test.{if_then_else_}
 use Rattle.words.specs.Bit.{bit}
 use Rattle.words.specs.Realm.{sameRealm}
 use Rattle.words.specs.declared.realm.Realm.{Realm}
+use Rattle.evaluate.specs.Asking.{inGroup}
+use Rattle.evaluate.specs.declared.asking.Caller.{Caller}
+use Rattle.evaluate.specs.declared.asking.File.{File}
 use Rattle.rights.specs.Right.{read, write, execute, control, insert, delete}
-use Rattle.rights.specs.Asking.{inGroup}
-use Rattle.rights.specs.declared.asking.Caller.{Caller}
-use Rattle.rights.specs.declared.asking.File.{File}
 
 -- in each octal digit 4 is read, 2 write, 1 execute
 unfoldable pub digitRights : ℕ → ℕ

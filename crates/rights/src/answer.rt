@@ -1,6 +1,6 @@
 // What a rights call answers.
-ghost use mathlib.Core.Path.{_≡_};
-ghost use Rattle.rights.specs.Deciding.{answerSays, bare, Finds};
+ghost use Rattle.evaluate.specs.Evaluation.{bare};
+ghost use Rattle.rights.specs.Deciding.{answerSays, Finds};
 
 pub enum Answer {
     Rights(u8),

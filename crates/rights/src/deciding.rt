@@ -2,54 +2,41 @@
 use crate::answer::Answer;
 use crate::answer::Found;
 use crate::answer::without_record;
-use crate::asking::Caller;
-use crate::asking::File;
-use crate::asking::Guard;
+use crate::guard::Guard;
 use crate::mode::mode_rights;
 use crate::refusal::MODE_ABOVE_511;
 use crate::refusal::TOO_MANY_GROUPS;
-use crate::steps::step_of;
-use crate::tally::no_tally;
-use list::Step;
-use list::Walk;
+use evaluate::Caller;
+use evaluate::Evaluated;
+use evaluate::File;
+use evaluate::evaluate;
 use list::refusal::FORBIDDEN_REALM;
 use words::Realm;
 use words::is_unknown;
-use words::same_realm;
-ghost use Rattle.rights.specs.Deciding.{byList, byMode, decided, Finds};
+ghost use Rattle.evaluate.specs.Evaluation.{evaluation};
+ghost use Rattle.rights.specs.Deciding.{byMode, decided, Finds};
 
 const MOST_GROUPS: usize = 32;
 
 const HIGHEST_MODE: u32 = 511;
 
-// One pass makes the list's checks and finds what decides.
 fn by_list(list: &[u8], groups: &[u32], caller: Caller, file: File) -> Found
-    ensures { λ r. ⌜ Finds (byList (now (list .entry)) (now (groups .entry)) caller file) r ⌝ }
+    ensures { λ r. ⌜ Finds (evaluation (now (list .entry)) (now (groups .entry)) caller file) r ⌝ }
 {
-    let mut walk = Walk::start(list);
-    let home = same_realm(caller.realm, walk.home);
-    let mut tally = no_tally();
-    loop {
-        let at = walk.at;
-        match walk.step(list) {
-            Step::Next(r, next) => {
-                tally = tally.with(step_of(home, groups, caller, file, r), at, r);
-                walk = next;
-            }
-            Step::Refused { number, place } => {
-                return without_record(Answer::RefusedAt {
-                    number: number,
-                    place: place,
-                });
-            }
-            Step::End => {
-                return Found {
-                    answer: Answer::Rights(tally.allowed()),
-                    start: tally.start,
-                    size: tally.size,
-                };
-            }
-        }
+    match evaluate(list, groups, caller, file) {
+        Evaluated::Rights {
+            rights,
+            start,
+            size,
+        } => Found {
+            answer: Answer::Rights(rights),
+            start: start,
+            size: size,
+        },
+        Evaluated::Refused { number, place } => without_record(Answer::RefusedAt {
+            number: number,
+            place: place,
+        }),
     }
 }
 

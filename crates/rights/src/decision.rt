@@ -1,9 +1,9 @@
 // The rights call, which hands back the deciding record as a part of the caller's own list.
 use crate::answer::Answer;
-use crate::asking::Caller;
-use crate::asking::File;
-use crate::asking::Guard;
 use crate::deciding::decide;
+use crate::guard::Guard;
+use evaluate::Caller;
+use evaluate::File;
 ghost use mathlib.Core.Path.{_≡_};
 ghost use Prim.Native.Nat.{_+_, _≤_};
 ghost use lib.ListN.{length};

@@ -1,10 +1,10 @@
 // Rights from a local realm and a mode.
-use crate::asking::Caller;
-use crate::asking::File;
-use crate::asking::is_in_group;
 use crate::right::CONTROL;
 use crate::right::DELETE;
 use crate::right::INSERT;
+use evaluate::Caller;
+use evaluate::File;
+use evaluate::is_in_group;
 use words::Realm;
 use words::same_realm;
 ghost use mathlib.Core.Path.{_≡_};

@@ -1,11 +1,16 @@
 // The sample day and our own cases: a line for each, held against the stored output.
+mod callers;
 mod draft;
 mod lists;
+mod rights_by_list;
+mod rights_by_mode;
 mod say;
 
 fn main() {
     lists::paper();
     lists::paper_unstarred();
+    rights_by_list::paper();
+    rights_by_mode::paper();
     lists::records_of_e();
     lists::first_kinds();
     lists::unknown_kinds();
@@ -22,4 +27,6 @@ fn main() {
     lists::missing_masks();
     lists::missing_control();
     lists::lengths();
+    rights_by_list::ours();
+    rights_by_mode::ours();
 }

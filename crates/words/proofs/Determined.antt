@@ -3,14 +3,13 @@ use mathlib.Core.Path.{_≡_, sym, _∙_, ap}
 use mathlib.Core.Bool.{Bool}
 use mathlib.Core.List.{List}
 use Prim.Native.Nat.{ℕ}
-use Rattle.words.specs.Said.{Said}
 use Rattle.words.specs.Number.{ReadsNumber}
 use Rattle.words.specs.Realm.{ReadsRealm, TellsRealms, TellsUnknown}
 use Rattle.words.specs.declared.realm.Realm.{Realm}
 
 -- where an answer can be read back from what it says, two answers that say the same are equal
-pub same-answer : {R : Type 0} (saying : R → Said) (back : Said → R) → ((r : R) → back (saying r) ≡ r)
-    → {said : Said} (r r′ : R) → saying r ≡ said → saying r′ ≡ said → r ≡ r′
+pub same-answer : {R S : Type 0} (saying : R → S) (back : S → R) → ((r : R) → back (saying r) ≡ r)
+    → {said : S} (r r′ : R) → saying r ≡ said → saying r′ ≡ said → r ≡ r′
 same-answer saying back inverse r r′ p q = sym (inverse r) ∙ ap back (p ∙ sym q) ∙ inverse r′
 
 pub number32-determined : (bytes : List ℕ) (at r r′ : ℕ) → ReadsNumber 4 bytes at r → ReadsNumber 4 bytes at r′ → r ≡ r′

@@ -12,6 +12,7 @@ use lib.ListN.{length, take, drop}
 use lib.Seq.{take-at, drop-at}
 use Rattle.words.specs.Number.{Bytes, numberFrom, number, part, within, numberAt, less, before}
 use Rattle.words.specs.Realm.{realmAt, sameRealm, lessRealm}
+use Rattle.words.specs.declared.realm.Realm.{Realm}
 use Rattle.words.proofs.Tests.{and-left, and-right}
 use Rattle.words.proofs.Digits.{first, bounded, part-length, part-bytes, part-add}
 
@@ -140,3 +141,14 @@ module _ (t u : List ℕ) (ht : Bytes t) (hu : Bytes u) where
         let hi : part m 8 t ≡ part n 8 u = sym (take-at (part m 8 t) (part (m + 8) 8 t) 8 a) ∙ ap (take 8) s ∙ take-at (part n 8 u) (part (n + 8) 8 u) 8 b in
         let lo : part (m + 8) 8 t ≡ part (n + 8) 8 u = sym (drop-at (part m 8 t) (part (m + 8) 8 t) 8 a) ∙ ap (drop 8) s ∙ drop-at (part n 8 u) (part (n + 8) 8 u) 8 b in
         rw (realm-at m t lt, realm-at n u lu, hi, lo, eq-eqb (number (part n 8 u)) (number (part n 8 u)) refl, eq-eqb (number (part (n + 8) 8 u)) (number (part (n + 8) 8 u)) refl)
+
+equal-swapped : (a b : ℕ) → eqb a b ≡ eqb b a
+equal-swapped a b = go (eqb a b) refl
+  where
+    go : (t : Bool) → eqb a b ≡ t → t ≡ eqb b a
+    go true q = sym (eq-eqb b a (sym (eqb-true a b q)))
+    go false q = sym (ne-eqb b a (λ e. eqb-false a b q (sym e)))
+
+pub realms-swapped : (a b : Realm) → sameRealm a b ≡ sameRealm b a
+unfolding sameRealm
+realms-swapped a b = rw (equal-swapped (a .hi) (b .hi), equal-swapped (a .lo) (b .lo))

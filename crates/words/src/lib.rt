@@ -4,6 +4,7 @@ mod realm;
 
 pub use number::number32;
 pub use realm::Realm;
+pub use realm::UNKNOWN_HI;
 pub use realm::is_unknown;
 pub use realm::realm_at;
 pub use realm::same_realm;

@@ -8,6 +8,9 @@ pub struct Realm {
     pub lo: u64,
 }
 
+// The first half of the unknown realm, 255, 255, 255, 254 and four zeroes; the second is 0.
+pub const UNKNOWN_HI: u64 = 0xffff_fffe_0000_0000;
+
 // The sixteen bytes at a place; zeroes where they are not all there.
 pub fn realm_at(bytes: &[u8], at: usize) -> Realm
     ensures { λ r. ⌜ ReadsRealm (now (bytes .entry)) at r ⌝ }
@@ -28,9 +31,8 @@ pub fn same_realm(a: Realm, b: Realm) -> bool
     (a.hi == b.hi) & (a.lo == b.lo)
 }
 
-// It is the unknown realm: 255, 255, 255, 254 and twelve zero bytes.
 pub fn is_unknown(realm: Realm) -> bool
     ensures { λ r. ⌜ TellsUnknown realm r ⌝ }
 {
-    (realm.hi == 0xffff_fffe_0000_0000) & (realm.lo == 0)
+    (realm.hi == UNKNOWN_HI) & (realm.lo == 0)
 }

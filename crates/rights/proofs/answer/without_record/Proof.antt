@@ -1,5 +1,5 @@
 use mathlib.Core.Path.{refl}
-use Rattle.rights.specs.Deciding.{bare}
+use Rattle.evaluate.specs.Evaluation.{bare}
 use Rattle.rights.proofs.answer.without_record.Statement.{statement}
 use Rattle.rights.proofs.answer.without_record.Tie as tie
 

@@ -42,21 +42,22 @@ use denote.Triple.Walked.{says, Stays, stay-none, stay-none-slice, walkOf, goes-
 use denote.Exit.{yes}
 use denote.Triple.Clauses.{ensured, lasts}
 use Rattle.words.specs.Number.{part as partOf}
-use Rattle.rights.specs.Deciding.{Decided, decided, Finds, Decides}
+use Rattle.evaluate.specs.Evaluation.{Decided}
+use Rattle.rights.specs.Deciding.{decided, Finds, Decides}
 use Rattle.rights.specs.declared.answer.Found.{Found}
-use Rattle.rights.specs.declared.asking.Caller.{Caller}
-use Rattle.rights.specs.declared.asking.File.{File}
-use Rattle.rights.specs.declared.asking.Guard.{Guard}
+use Rattle.evaluate.specs.declared.asking.Caller.{Caller}
+use Rattle.evaluate.specs.declared.asking.File.{File}
+use Rattle.rights.specs.declared.guard.Guard.{Guard}
 use Rattle.rights.specs.declared.decision.Decision.{Decision}
 use Rattle.rights.proofs.Inside.{decided-fits}
 use Rattle.rights.proofs.answer.Answer as E
 use Rattle.rights.proofs.answer.Answer.Laws as E′
-use Rattle.rights.proofs.asking.Caller as C′
-use Rattle.rights.proofs.asking.Caller.Laws as CL
-use Rattle.rights.proofs.asking.File as I
-use Rattle.rights.proofs.asking.File.Laws as IL
-use Rattle.rights.proofs.asking.Guard as G
-use Rattle.rights.proofs.asking.Guard.Laws as GL
+use Rattle.evaluate.proofs.asking.Caller as C′
+use Rattle.evaluate.proofs.asking.Caller.Laws as CL
+use Rattle.evaluate.proofs.asking.File as I
+use Rattle.evaluate.proofs.asking.File.Laws as IL
+use Rattle.rights.proofs.guard.Guard as G
+use Rattle.rights.proofs.guard.Guard.Laws as GL
 use Rattle.rights.proofs.answer.Found as F
 use Rattle.rights.proofs.answer.Found.Laws as F′
 use Rattle.rights.proofs.decision.Decision as T

@@ -14,6 +14,6 @@ class-rights-spec =
     (λ c. simp (eq-eqb _ _ (c .before .if1 .taken), c .digit-rights .ensures))
     (λ c κs. search needs)
     (λ c κs. search needs)
-    (λ c. simp (ne-eqb _ _ (c .before .before .before .if1 .left), ← c .before .before .is-in-group .ensures, c .before .if2 .taken, c .digit-rights2 .ensures))
+    (λ c. simp (ne-eqb _ _ (c .before .before .before .if1 .left), ← c .before .before .is-in-group .ensures .answer, c .before .if2 .taken, c .digit-rights2 .ensures))
     (λ c κs. search needs)
-    (λ c. simp (ne-eqb _ _ (c .before .before .before .if1 .left), ← c .before .before .is-in-group .ensures, c .before .if2 .left, c .digit-rights3 .ensures)))
+    (λ c. simp (ne-eqb _ _ (c .before .before .before .if1 .left), ← c .before .before .is-in-group .ensures .answer, c .before .if2 .left, c .digit-rights3 .ensures)))

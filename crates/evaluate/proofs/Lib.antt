@@ -1,0 +1,13 @@
+pub mod Groups
+pub mod Serving
+pub mod Counting
+pub mod Masking
+pub mod Passing
+pub mod Deciders
+pub mod Inside
+pub mod First
+pub mod Unauthenticated
+pub mod Bounded
+pub mod Alike
+pub mod Determined
+pub mod Opened

@@ -1,0 +1,4 @@
+pub mod Asking
+pub mod Steps
+pub mod Evaluation
+pub mod Tally

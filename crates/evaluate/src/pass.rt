@@ -1,0 +1,41 @@
+// The one pass over a list: all of its checks, and what is kept of its records for a caller.
+use crate::asking::Caller;
+use crate::asking::File;
+use crate::steps::step_of;
+use crate::tally::Tally;
+use crate::tally::no_tally;
+use list::Step;
+use list::Walk;
+use words::same_realm;
+ghost use Rattle.evaluate.specs.Tally.{Passes};
+
+pub enum Passed {
+    Refused { number: u8, place: usize },
+    Fine(Tally),
+}
+
+pub(crate) fn pass(list: &[u8], groups: &[u32], caller: Caller, file: File) -> Passed
+    ensures { λ r. ⌜ Passes (now (list .entry)) (now (groups .entry)) caller file r ⌝ }
+{
+    let mut walk = Walk::start(list);
+    let home = same_realm(caller.realm, walk.home);
+    let mut tally = no_tally();
+    loop {
+        let at = walk.at;
+        match walk.step(list) {
+            Step::Next(r, next) => {
+                tally = tally.with(step_of(home, groups, caller, file, r), at, r);
+                walk = next;
+            }
+            Step::Refused { number, place } => {
+                return Passed::Refused {
+                    number: number,
+                    place: place,
+                };
+            }
+            Step::End => {
+                return Passed::Fine(tally);
+            }
+        }
+    }
+}

@@ -1,0 +1,31 @@
+// Who asks, and of which file.
+use evaluate::Caller;
+use evaluate::File;
+use words::Realm;
+
+pub(crate) fn caller(hi: u64, lo: u64, user: u32, group: u32) -> Caller {
+    Caller {
+        realm: Realm { hi: hi, lo: lo },
+        user: user,
+        group: group,
+    }
+}
+
+// Of the realm that is sixteen times one byte.
+pub(crate) fn of(realm: u8, user: u32, group: u32) -> Caller {
+    let half = realm as u64 * 0x0101_0101_0101_0101;
+    caller(half, half, user, group)
+}
+
+pub(crate) fn unauthenticated() -> Caller {
+    caller(0xffff_fffe_0000_0000, 0, 4294967294, 4294967294)
+}
+
+// The paper's file, or a directory like it.
+pub(crate) fn file(dir: bool) -> File {
+    File {
+        owner: 9,
+        group: 4,
+        dir: dir,
+    }
+}
