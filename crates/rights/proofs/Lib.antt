@@ -1,3 +1,4 @@
+pub mod Choosing
 pub mod Inside
 pub mod Alike
 pub mod Determined

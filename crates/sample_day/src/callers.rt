@@ -2,6 +2,7 @@
 use evaluate::Caller;
 use evaluate::File;
 use words::Realm;
+use words::UNKNOWN_HI;
 
 pub(crate) fn caller(hi: u64, lo: u64, user: u32, group: u32) -> Caller {
     Caller {
@@ -18,7 +19,7 @@ pub(crate) fn of(realm: u8, user: u32, group: u32) -> Caller {
 }
 
 pub(crate) fn unauthenticated() -> Caller {
-    caller(0xffff_fffe_0000_0000, 0, 4294967294, 4294967294)
+    caller(UNKNOWN_HI, 0, 4294967294, 4294967294)
 }
 
 // The paper's file, or a directory like it.

@@ -11,6 +11,7 @@ use crate::say::text;
 use evaluate::Caller;
 use rights::Guard;
 use words::Realm;
+use words::UNKNOWN_HI;
 
 fn in_realm(hi: u64, lo: u64, mode: u32) -> Guard {
     Guard::Mode {
@@ -25,7 +26,7 @@ fn by(mode: u32) -> Guard {
 }
 
 fn in_unknown(mode: u32) -> Guard {
-    in_realm(0xffff_fffe_0000_0000, 0, mode)
+    in_realm(UNKNOWN_HI, 0, mode)
 }
 
 // A caller with its primary group alone.
@@ -111,9 +112,9 @@ fn local_realms() {
     case(b"the same, unauthenticated", nobody, false, in_unknown(416));
     case(
         b"its last byte differs",
-        caller(0xffff_fffe_0000_0000, 1, 9, 1),
+        caller(UNKNOWN_HI, 1, 9, 1),
         false,
-        in_realm(0xffff_fffe_0000_0000, 1, 416),
+        in_realm(UNKNOWN_HI, 1, 416),
     );
 }
 

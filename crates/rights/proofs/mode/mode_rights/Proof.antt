@@ -1,15 +1,19 @@
+use mathlib.Core.Path.{sym, _∙_}
 use borrow.Author.Needs.{needs}
-use Rattle.rights.specs.Mode.{modeRights}
+use borrow.Author.Tests.{not-true, not-false}
+use Rattle.rights.proofs.Choosing.{another-realm, local-realm}
 use Rattle.rights.proofs.mode.mode_rights.Statement.{statement}
 use Rattle.rights.proofs.mode.mode_rights.Tie as tie
 
 pub mode-rights-spec : {M : Type 1} → statement M
-unfolding modeRights
 mode-rights-spec =
     tie.close
     (tie.spec
     (λ c κs. search needs)
-    (λ c. simp (← c .before .same-realm .ensures .answer, c .if1 .taken))
+    (λ c. let p = c .before .before .before .args in another-realm (p .groups .now) (p .caller) (p .file) (p .local) (p .mode) (sym (c .before .same-realm .ensures .answer) ∙ not-true (c .before .same-realm .result) (c .if1 .taken)))
     (λ c κs. search needs)
     (λ c κs. search needs)
-    (λ c. simp (← c .before .before .before .same-realm .ensures .answer, c .before .before .if1 .left, ← c .before .class-rights .ensures, c .with-write .ensures)))
+    (λ c.
+    let p = c .before .before .before .before .before .args in
+    let same = c .before .before .before .same-realm in
+    c .with-write .ensures ∙ rw (c .before .class-rights .ensures) (local-realm (p .groups .now) (p .caller) (p .file) (p .local) (p .mode) (sym (same .ensures .answer) ∙ not-false (same .result) (c .before .before .if1 .left)))))

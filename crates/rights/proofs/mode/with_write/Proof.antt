@@ -1,13 +1,10 @@
-use Rattle.words.specs.Bit.{bit}
-use Rattle.rights.specs.Right.{insert, delete}
-use Rattle.rights.specs.Mode.{withWrite}
+use Rattle.rights.proofs.Choosing.{write-brings, nothing-brought}
 use Rattle.rights.proofs.mode.with_write.Statement.{statement}
 use Rattle.rights.proofs.mode.with_write.Tie as tie
 
 pub with-write-spec : {M : Type 1} → statement M
-unfolding withWrite bit insert delete
 with-write-spec =
     tie.close
     (tie.spec
-    (λ c. simp (c .if1 .taken))
-    (λ c. simp (c .if1 .left)))
+    (λ c. write-brings (c .before .args .dir) (c .before .args .rights) (c .if1 .taken))
+    (λ c. nothing-brought (c .before .args .dir) (c .before .args .rights) (c .if1 .left)))
