@@ -7,6 +7,7 @@ pub mod Whole
 pub mod Enough
 pub mod Places
 pub mod Passed
+pub mod Once
 pub mod Bytewise
 pub mod Determined
 pub mod Opened

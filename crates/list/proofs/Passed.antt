@@ -2,7 +2,7 @@
 use mathlib.Core.Path.{_≡_, refl}
 use mathlib.Core.List.{List, [], _∷_}
 use mathlib.Core.Bool.{Bool, true, false, not}
-use Prim.Native.Nat.{ℕ, _+_}
+use Prim.Native.Nat.{ℕ, zero, suc, _+_}
 use native.Mathlib.Omega.{arith}
 use borrow.Author.Tests.{eqb-true, ne-eqb}
 use lib.Dec.{eqb, ltb}
@@ -15,7 +15,7 @@ use Rattle.words.proofs.Tests.{or-left, Each}
 use Rattle.list.specs.Kind.{body, bodies, bodyOf}
 use Rattle.list.specs.Reading.{recordOf, readOf, whenWhole}
 use Rattle.list.specs.Fault.{begins, noRecord, rises, isForbidden, fault, endFault}
-use Rattle.list.specs.Checking.{Found, found, cutFrom, cut, Placed, placed, wholes, records, refusedAt, passed, faultsAfter, seenIn, checkSays}
+use Rattle.list.specs.Checking.{found, cutFrom, cut, Placed, placed, wholes, records, refusedAt, passed, faultsAfter, seenIn, checkSays}
 use Rattle.list.specs.declared.records.Record.{Record}
 use Rattle.list.specs.declared.records.Read.{Read}
 use Rattle.list.specs.declared.records.Read.the-variants.{Nothing, Unknown, Short, Whole}
@@ -37,30 +37,47 @@ no-refusal place number rest v = go (eqb number 0) refl
     go true q p = (eqb-true number 0 q, p)
     go false q p = let z : _≡_ {A = ℕ} 0 1 = cc in absurd (omega arith)
 
-sound : (home : Realm) (earlier r : Record) → fault home earlier (Whole r) ≡ 0 → Sound home r
+sound : (home : Realm) (earlier r : Record) → fault home earlier (Whole r) ≡ 0 → Sound home r × (rises earlier r ≡ true)
 unfolding fault
-sound home earlier r = go (ltb 63 (r .rights)) (rises earlier r) (isForbidden home r) refl refl
+sound home earlier r = go (ltb 63 (r .rights)) (rises earlier r) (isForbidden home r) refl refl refl
   where
-    go : (a b c : Bool) → ltb 63 (r .rights) ≡ a → isForbidden home r ≡ c → _≡_ {A = ℕ} (if a then 14 else if not b then 15 else if c then 16 else 0) 0 → Sound home r
-    go true b c p q h = absurd (omega arith)
-    go false false c p q h = absurd (omega arith)
-    go false true true p q h = absurd (omega arith)
-    go false true false p q h = record { rights = p; realm = q }
+    go : (a b c : Bool) → ltb 63 (r .rights) ≡ a → rises earlier r ≡ b → isForbidden home r ≡ c
+        → _≡_ {A = ℕ} (if a then 14 else if not b then 15 else if c then 16 else 0) 0 → Sound home r × (rises earlier r ≡ true)
+    go true b c p o q h = absurd (omega arith)
+    go false false c p o q h = absurd (omega arith)
+    go false true true p o q h = absurd (omega arith)
+    go false true false p o q h = (record { rights = p; realm = q }, o)
 
-sound-from : (home : Realm) (earlier : Record) (fs : List Found) (v : List ℕ) → faultsAfter home earlier fs ≡ done v → Each (IsSound home) (wholes fs)
-unfolding faultsAfter wholes whenWhole Each placed passed fault
-sound-from home earlier [] v q = tt
-sound-from home earlier (f ∷ fs) v q = go (λ e. sound-from home e fs v) (f .read) q
+-- a record may stand after an earlier one, and was read from some bytes
+pub record Follows (home : Realm) (earlier r : Record) : Type 0 where
+  pub sound : Sound home r
+  pub order : rises earlier r ≡ true
+  pub tail : List ℕ
+  pub read : Is tail r
+
+-- each of some records follows the one before it
+unfoldable pub Chain : Realm → Record → List Placed → Type 0
+Chain home earlier [] = Unit {0}
+Chain home earlier (p ∷ ps) = Follows home earlier (p .it) × Chain home (p .it) ps
+
+chained : (home : Realm) (earlier : Record) (fuel at : ℕ) (t v : List ℕ) → faultsAfter home earlier (cutFrom fuel at t) ≡ done v
+    → Chain home earlier (wholes (cutFrom fuel at t))
+unfolding cutFrom faultsAfter wholes whenWhole Chain found placed passed fault
+chained home earlier zero at t v = λ q. tt
+chained home earlier (suc fuel) at t v = go (λ e at u. chained home e fuel at u v) (eqb (length t) 0) (readOf t) refl
   where
-    go : ((e : Record) → faultsAfter home e fs ≡ done v → Each (IsSound home) (wholes fs)) → (read : Read)
-        → andThen (refusedAt (f .at) (fault home earlier read)) (faultsAfter home (passed read) fs) ≡ done v
-        → Each (IsSound home) (whenWhole read (λ r. placed (f .at) r ∷ wholes fs) (wholes fs))
-    go ih Nothing q = ih (passed Nothing) (no-refusal (f .at) 0 (faultsAfter home (passed Nothing) fs) v q .1)
-    go ih Unknown q = let n = no-refusal (f .at) 12 (faultsAfter home (passed Unknown) fs) v q .0 in absurd (omega arith)
-    go ih Short q = let n = no-refusal (f .at) 13 (faultsAfter home (passed Short) fs) v q .0 in absurd (omega arith)
-    go ih (Whole r) q =
-        let n = no-refusal (f .at) (fault home earlier (Whole r)) (faultsAfter home (passed (Whole r)) fs) v q in
-        (sound home earlier r (n .0), ih (passed (Whole r)) (n .1))
+    go : ((e : Record) (at : ℕ) (u : List ℕ) → faultsAfter home e (cutFrom fuel at u) ≡ done v → Chain home e (wholes (cutFrom fuel at u)))
+        → (b : Bool) (read : Read) → readOf t ≡ read
+        → faultsAfter home earlier (if b then [] else found at read ∷ whenWhole read (λ r. cutFrom fuel (at + r .size) (drop (r .size) t)) []) ≡ done v
+        → Chain home earlier (wholes (if b then [] else found at read ∷ whenWhole read (λ r. cutFrom fuel (at + r .size) (drop (r .size) t)) []))
+    go ih true read e q = tt
+    go ih false Nothing e q = tt
+    go ih false Unknown e q = tt
+    go ih false Short e q = tt
+    go ih false (Whole r) e q =
+        let n = no-refusal at (fault home earlier (Whole r)) (faultsAfter home r (cutFrom fuel (at + r .size) (drop (r .size) t))) v q in
+        let s = sound home earlier r (n .0) in
+        (record { sound = s .0; order = s .1; tail = t; read = is t r e }, ih r (at + r .size) (drop (r .size) t) (n .1))
 
 -- a list that passes begins with kind 1, and no record earns a refusal
 passes : (list : List ℕ) → checkSays list ≡ done [] → (begins list ≡ true) × ((v : List ℕ) × (faultsAfter (realmAt 1 list) noRecord (cut list) ≡ done v))
@@ -75,9 +92,17 @@ passes list = go (ltb 4096 (length list)) (begins list) (faultsAfter (realmAt 1 
     go false true (done v) k p q = (k, (v, p))
     go false true (refused number values) k p q = let z : _≡_ {A = ℕ} 0 1 = cc in absurd (omega arith)
 
+pub all-follow : (list : List ℕ) → checkSays list ≡ done [] → Chain (realmAt 1 list) noRecord (records list)
+unfolding records cut
+all-follow list q = let p = passes list q .1 in chained (realmAt 1 list) noRecord (length list) 0 list (p .0) (p .1)
+
+each-sound : (home : Realm) (earlier : Record) (ps : List Placed) → Chain home earlier ps → Each (IsSound home) ps
+unfolding Chain Each
+each-sound home earlier [] c = tt
+each-sound home earlier (p ∷ ps) c = (c .0 .sound, each-sound home (p .it) ps (c .1))
+
 pub all-sound : (list : List ℕ) → checkSays list ≡ done [] → Each (IsSound (realmAt 1 list)) (records list)
-unfolding records
-all-sound list q = let p = passes list q .1 in sound-from (realmAt 1 list) noRecord (cut list) (p .0) (p .1)
+all-sound list q = each-sound (realmAt 1 list) noRecord (records list) (all-follow list q)
 
 -- the record of the default realm is sound too
 module _ (x : ℕ) (xs : List ℕ) (q : checkSays (x ∷ xs) ≡ done []) where
@@ -104,7 +129,7 @@ module _ (x : ℕ) (xs : List ℕ) (q : checkSays (x ∷ xs) ≡ done []) where
   of-head Nothing e h = absurd (omega (arith, empty list e))
   of-head Unknown e h = absurd (omega arith)
   of-head Short e h = absurd (omega arith)
-  of-head (Whole r) e h = rw (← named r (is list r e)) (or-left _ _ (sound (realmAt 1 list) noRecord r h .realm))
+  of-head (Whole r) e h = rw (← named r (is list r e)) (or-left _ _ (sound (realmAt 1 list) noRecord r h .0 .realm))
 
 -- the default realm of a list that passes is known
 pub default-known : (list : List ℕ) → checkSays list ≡ done [] → sameRealm (realmAt 1 list) unknownRealm ≡ false

@@ -30,20 +30,25 @@ fn in_unknown(mode: u32) -> Guard {
 }
 
 // A caller with its primary group alone.
-fn case(name: &[u8], who: Caller, dir: bool, guard: Guard) {
+fn case(name: &[u8], who: Caller, dir: bool, mode: u32) {
     let none = [0u32; 0];
-    ask(name, empty(), &none, who, file(dir), guard);
+    ask(name, empty(), &none, who, file(dir), by(mode));
+}
+
+// The same where the local realm is another.
+fn elsewhere(name: &[u8], who: Caller, guard: Guard) {
+    let none = [0u32; 0];
+    ask(name, empty(), &none, who, file(false), guard);
 }
 
 // Each mode is tried by the owner, a member of the group and another user.
 fn classes(name: &[u8], dir: bool, mode: u32) {
-    let guard = by(mode);
     text(name);
-    case(b", owner", of(17, 9, 1), dir, guard);
+    case(b", owner", of(17, 9, 1), dir, mode);
     text(name);
-    case(b", group", of(17, 8, 4), dir, guard);
+    case(b", group", of(17, 8, 4), dir, mode);
     text(name);
-    case(b", other", of(17, 8, 1), dir, guard);
+    case(b", other", of(17, 8, 1), dir, mode);
 }
 
 pub(crate) fn paper() {
@@ -89,12 +94,12 @@ fn member(name: &[u8], user: u32, more: [u32; 2]) {
 
 // The first class that a caller belongs to is the only one; ids are 32 bits.
 fn members() {
-    case(b"octal 70, owner in group 4", of(17, 9, 4), false, by(56));
-    case(b"octal 70, group 260", of(17, 8, 260), false, by(56));
+    case(b"octal 70, owner in group 4", of(17, 9, 4), false, 56);
+    case(b"octal 70, group 260", of(17, 8, 260), false, 56);
     member(b"octal 70, groups 1, 5, 4", 8, [5, 4]);
     member(b"octal 70, groups 1, 5, 6", 8, [5, 6]);
     member(b"octal 70, owner, groups 1, 4, 4", 9, [4, 4]);
-    case(b"octal 700, user 265", of(17, 265, 1), false, by(448));
+    case(b"octal 700, user 265", of(17, 265, 1), false, 448);
 }
 
 // 22.
@@ -107,41 +112,34 @@ fn highest() {
 // 16, before 22 and whoever asks.
 fn local_realms() {
     let nobody = unauthenticated();
-    case(b"unknown local realm", of(17, 9, 1), false, in_unknown(416));
-    case(b"the same, mode 512", of(17, 9, 1), false, in_unknown(512));
-    case(b"the same, unauthenticated", nobody, false, in_unknown(416));
-    case(
+    elsewhere(b"unknown local realm", of(17, 9, 1), in_unknown(416));
+    elsewhere(b"the same, mode 512", of(17, 9, 1), in_unknown(512));
+    elsewhere(b"the same, unauthenticated", nobody, in_unknown(416));
+    elsewhere(
         b"its last byte differs",
         caller(UNKNOWN_HI, 1, 9, 1),
-        false,
         in_realm(UNKNOWN_HI, 1, 416),
     );
 }
 
 // Nothing, but 22 comes first.
 fn strangers() {
-    let guard = by(511);
     let stranger = of(18, 9, 4);
-    case(b"mode 511, a stranger", stranger, false, guard);
-    case(b"mode 511, a stranger, directory", stranger, true, guard);
-    case(b"mode 512, a stranger", stranger, false, by(512));
-    case(
-        b"mode 511, unauthenticated",
-        unauthenticated(),
-        false,
-        guard,
-    );
+    case(b"mode 511, a stranger", stranger, false, 511);
+    case(b"mode 511, a stranger, directory", stranger, true, 511);
+    case(b"mode 512, a stranger", stranger, false, 512);
+    case(b"mode 511, unauthenticated", unauthenticated(), false, 511);
     case(
         b"mode 511, R but for its last byte",
         caller(0x1111_1111_1111_1111, 0x1111_1111_1111_1112, 9, 4),
         false,
-        guard,
+        511,
     );
     case(
         b"mode 511, R but for its first byte",
         caller(0x1211_1111_1111_1111, 0x1111_1111_1111_1111, 9, 4),
         false,
-        guard,
+        511,
     );
 }
 
