@@ -3,7 +3,6 @@ use crate::asking::Caller;
 use crate::asking::File;
 use crate::pass::Passed;
 use crate::pass::pass;
-use crate::tally::Tally;
 ghost use Rattle.evaluate.specs.Evaluation.{Evaluates};
 
 pub enum Evaluated {

@@ -23,6 +23,7 @@ ghost use Rattle.evaluate.specs.declared.asking.File.{File as FileOf};
 // After all seven: what a record that serves none is given.
 const NONE: u8 = 8;
 
+// The step, if the record serves it.
 fn when(test: bool, step: u8) -> u8
     ensures { λ n. ⌜ n ≡ (if test then step else 8) ⌝ }
 {

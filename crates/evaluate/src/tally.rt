@@ -12,6 +12,9 @@ const OTHER: u8 = 4;
 
 const NOTHING: u8 = 7;
 
+// All eight bits: what is left where there is no mask_obj.
+const UNMASKED: u8 = 255;
+
 // The step, the union of the records that serve it, the first of them, and the rights that mask_obj leaves.
 pub struct Tally {
     pub step: u8,
@@ -29,7 +32,7 @@ pub(crate) fn no_tally() -> Tally
         rights: 0,
         start: 0,
         size: 0,
-        mask: 255,
+        mask: UNMASKED,
     }
 }
 
