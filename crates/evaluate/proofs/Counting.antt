@@ -7,11 +7,11 @@ use native.Mathlib.Omega.{arith}
 use borrow.Author.Tests.{eqb-true, lt-ltb, le-ltb, eq-eqb, ne-eqb}
 use lib.Bits.{bitOr, or-zero-l}
 use Rattle.words.specs.Test.{if_then_else_, those}
-use Rattle.words.proofs.Tests.{those-append}
+use Rattle.words.proofs.Tests.{those-append, Each}
 use Rattle.list.specs.Checking.{Placed}
 use Rattle.list.specs.declared.records.Record.{Record}
 use Rattle.evaluate.specs.Steps.{Step, Served, serving, servedFrom, union, isMask, masking, first}
-use Rattle.evaluate.specs.Tally.{stepFrom, withMask, withUnion, counted, tallied}
+use Rattle.evaluate.specs.Tally.{stepFrom, withMask, withUnion, counted, tallied, tallying}
 use Rattle.evaluate.specs.declared.tally.Tally.{Tally}
 
 union-one : (p : Placed) → union (p ∷ []) ≡ p .it .rights
@@ -78,12 +78,11 @@ module _ (mask : ℕ) (p : Placed) where
           (ap (λ (y : ℕ). record { step = n; rights = y; start = x .at; size = x .it .size; mask = mask }) (sym (union-more (x ∷ xs) p)))
 
 -- no step takes a record
-unfoldable pub Untaken : List Step → Record → Type 0
-Untaken [] r = Unit {0}
-Untaken (t ∷ ts) r = (t .takes r ≡ false) × Untaken ts r
+abbrev pub Untaken : List Step → Record → Type 0
+Untaken ts r = Each (λ (t : Step). t .takes r ≡ false) ts
 
 passed-over : (n : ℕ) (ts : List Step) (ps : List Placed) (p : Placed) → Untaken ts (p .it) → servedFrom n ts (ps ++ (p ∷ [])) ≡ servedFrom n ts ps
-unfolding servedFrom those Untaken
+unfolding servedFrom those Each
 passed-over n [] ps p u = refl
 passed-over n (t ∷ ts) ps p u =
     rw (those-append (λ (q : Placed). t .takes (q .it)) ps (p ∷ []), u .0, append-nil, passed-over (suc n) ts ps p (u .1))
@@ -107,6 +106,6 @@ module _ (ts : List Step) (unmasked : (r : Record) → r .kind ≡ 5 → Untaken
       go true q = rw (passed-over 1 ts ps p (unmasked (p .it) (eqb-true (p .it .kind) 5 q)), q)
       go false q = rw q (one-more (masking ps 255) p 1 ts ps)
 
-  pub all-counted : (ps rs : List Placed) → foldl (λ (t : Tally) (p : Placed). tallied t (stepFrom 1 ts (p .it)) p) (tallyOf ts ps) rs ≡ tallyOf ts (ps ++ rs)
+  pub all-counted : (ps rs : List Placed) → foldl (tallying ts) (tallyOf ts ps) rs ≡ tallyOf ts (ps ++ rs)
   all-counted ps [] = rw append-nil refl
   all-counted ps (p ∷ rs) = rw (with-one ps p) (all-counted (ps ++ (p ∷ [])) rs ∙ ap (tallyOf ts) (append-assoc ps (p ∷ []) rs))

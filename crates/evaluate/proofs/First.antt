@@ -6,6 +6,7 @@ use Prim.Native.Nat.{ℕ, suc, _+_}
 use native.Mathlib.Omega.{arith}
 use lib.ListN.{length}
 use Rattle.words.specs.Test.{anyOf, those}
+use Rattle.words.proofs.Tests.{Each}
 use Rattle.list.specs.Checking.{Placed}
 use Rattle.evaluate.specs.Steps.{Step, Served, serving, servedFrom, served}
 
@@ -13,9 +14,8 @@ use Rattle.evaluate.specs.Steps.{Step, Served, serving, servedFrom, serv
 unfoldable pub applies : Step → List Placed → Bool
 applies t rs = anyOf (λ (p : Placed). t .takes (p .it)) rs
 
-unfoldable pub NoneApplies : List Step → List Placed → Type 0
-NoneApplies [] rs = Unit {0}
-NoneApplies (t ∷ ts) rs = (applies t rs ≡ false) × NoneApplies ts rs
+abbrev pub NoneApplies : List Step → List Placed → Type 0
+NoneApplies ts rs = Each (λ (t : Step). applies t rs ≡ false) ts
 
 those-none : (test : Placed → Bool) (rs : List Placed) → anyOf test rs ≡ false → those test rs ≡ []
 unfolding anyOf those
@@ -39,7 +39,7 @@ serving-some n t test (r ∷ rs) later q = go (test r) (serving-some n t test rs
 
 module _ (rs : List Placed) where
   pub skipped : (n : ℕ) (earlier ts : List Step) → NoneApplies earlier rs → servedFrom n (earlier ++ ts) rs ≡ servedFrom (n + length earlier) ts rs
-  unfolding NoneApplies applies servedFrom serving
+  unfolding Each applies servedFrom serving
   skipped n [] ts none = let e : n ≡ n + 0 = omega arith in ap (λ (k : ℕ). servedFrom k ts rs) e
   skipped n (u ∷ earlier) ts none =
       let e : suc n + length earlier ≡ n + suc (length earlier) = omega arith in

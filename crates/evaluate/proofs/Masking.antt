@@ -20,7 +20,7 @@ use Rattle.evaluate.specs.declared.tally.Tally.{Tally}
 use Rattle.evaluate.proofs.Counting.{asTally, masking-append}
 
 -- the rights that each of some records has
-kept : ℕ → List Placed → ℕ
+unfoldable pub kept : ℕ → List Placed → ℕ
 kept = foldl (λ (y : ℕ) (p : Placed). bitAnd y (p .it .rights))
 
 kept-apart : (ms : List Placed) (x y : ℕ) → kept (bitAnd x y) ms ≡ bitAnd x (kept y ms)
@@ -86,24 +86,23 @@ module _ (rs : List Placed) where
   by-none = sym (nothing-masked (those isMask rs))
 
   module _ (home : Bool) (groups : List ℕ) (caller : Caller) (file : File) where
-    deciding : Served
+    abbrev deciding : Served
     deciding = served (steps home groups caller file) rs
 
     rule : Rule deciding
-    unfolding deciding steps servedFrom masked unmasked
+    unfolding steps servedFrom masked unmasked
     rule = by-step 1 _ refl _ _ (by-step 2 _ refl _ _ (by-step 3 _ refl _ _ (by-step 4 _ refl _ _ (by-step 5 _ refl _ _ (by-step 6 _ refl _ _ by-none)))))
 
     -- the rights that a pass allows are those of the step that decides
-    pub all-allowed : union (served (steps home groups caller file) rs .by) < 256
-        → allowed (asTally (masking rs 255) (served (steps home groups caller file) rs)) ≡ rightsBy (served (steps home groups caller file) rs) rs
-    unfolding Rule deciding allowed asTally
+    pub all-allowed : union (deciding .by) < 256 → allowed (asTally (masking rs 255) deciding) ≡ rightsBy deciding rs
+    unfolding Rule allowed asTally
     all-allowed h = rw (rule, masked-last rs (union (deciding .by)) h)
 
     -- a step other than 1 and 4 never gives more than a mask_obj of the list has
-    pub within-mask : (served (steps home groups caller file) rs .step ≡ 1 → ⊥) → (served (steps home groups caller file) rs .step ≡ 4 → ⊥)
+    pub within-mask : (deciding .step ≡ 1 → ⊥) → (deciding .step ≡ 4 → ⊥)
         → (ps : List Placed) (m : Placed) (qs : List Placed) → rs ≡ ps ++ (m ∷ qs) → isMask m ≡ true
-        → (i : ℕ) → bit i (rightsBy (served (steps home groups caller file) rs) rs) ≡ true → bit i (m .it .rights) ≡ true
-    unfolding Rule deciding
+        → (i : ℕ) → bit i (rightsBy deciding rs) ≡ true → bit i (m .it .rights) ≡ true
+    unfolding Rule
     within-mask one four ps m qs e q i t =
         let x = union (deciding .by) in
         let r : rightsBy deciding rs ≡ masking rs x = rw (rule, ne-eqb (deciding .step) 1 one, ne-eqb (deciding .step) 4 four) in

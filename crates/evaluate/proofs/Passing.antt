@@ -7,12 +7,13 @@ use native.Mathlib.Omega.{arith}
 use Rattle.words.specs.Test.{those}
 use Rattle.words.specs.Said.{done, refused}
 use Rattle.words.specs.Realm.{sameRealm, realmAt}
+use Rattle.words.proofs.Tests.{Each}
 use Rattle.list.specs.Fault.{noRecord}
 use Rattle.list.specs.Checking.{Placed, placed, records, checkSays}
 use Rattle.list.specs.declared.records.Record.{Record}
-use Rattle.evaluate.specs.Steps.{masked, unmasked, here, abroad, steps, serving, servedFrom, served, union, isMask, masking, first}
+use Rattle.evaluate.specs.Steps.{Step, masked, unmasked, here, abroad, steps, serving, servedFrom, served, union, isMask, masking, first}
 use Rattle.evaluate.specs.Evaluation.{unlessRefused, byStep, servedIn, evaluation, evaluatedAs, verdictSays}
-use Rattle.evaluate.specs.Tally.{stepFrom, noTally, tallied, allowed, tallyIn, passSays, Passes}
+use Rattle.evaluate.specs.Tally.{noTally, tallying, allowed, tallyIn, passSays, Passes}
 use Rattle.evaluate.specs.declared.asking.Caller.{Caller}
 use Rattle.evaluate.specs.declared.asking.File.{File}
 use Rattle.evaluate.specs.declared.evaluation.Evaluated.the-variants.{Rights, Refused as Rejected}
@@ -24,30 +25,30 @@ use Rattle.evaluate.proofs.Counting.{asTally, Untaken, tallyOf, all-cou
 use Rattle.evaluate.proofs.Masking.{all-allowed}
 
 module _ (home : Bool) (groups : List ℕ) (caller : Caller) (file : File) where
-  -- the tally with one more record
-  abbrev pub add : Tally → Placed → Tally
-  add t p = tallied t (stepFrom 1 (steps home groups caller file) (p .it)) p
+  abbrev ts : List Step
+  ts = steps home groups caller file
 
-  mask-untaken : (r : Record) → r .kind ≡ 5 → Untaken (steps home groups caller file) r
-  unfolding Untaken steps here abroad masked unmasked
+  mask-untaken : (r : Record) → r .kind ≡ 5 → Untaken ts r
+  unfolding Each steps here abroad masked unmasked
   mask-untaken r k = (simp (k, and-false), (simp (k, and-false), (simp (k, and-false), (simp (k, and-false), (simp (k, and-false), (simp k, tt))))))
 
-  none-yet : noTally ≡ tallyOf (steps home groups caller file) []
+  none-yet : noTally ≡ tallyOf ts []
   unfolding noTally tallyOf asTally steps servedFrom serving those union masking isMask first placed noRecord
   none-yet = refl
 
-  counted-all : (rs : List Placed) → foldl add noTally rs ≡ asTally (masking rs 255) (served (steps home groups caller file) rs)
+  counted-all : (rs : List Placed) → foldl (tallying ts) noTally rs ≡ asTally (masking rs 255) (served ts rs)
   unfolding tallyOf
-  counted-all rs = rw none-yet (all-counted (steps home groups caller file) mask-untaken [] rs)
+  counted-all rs = rw none-yet (all-counted ts mask-untaken [] rs)
 
   -- what the tally of some records comes to is what the steps decide
-  decides : (rs : List Placed) (t : Tally) → t ≡ foldl add noTally rs → t .rights < 256
-      → record { says = done (allowed t ∷ []); start = t .start; size = t .size } ≡ byStep (served (steps home groups caller file) rs) rs
+  decides : (rs : List Placed) (t : Tally) → t ≡ foldl (tallying ts) noTally rs → t .rights < 256
+      → record { says = done (allowed t ∷ []); start = t .start; size = t .size } ≡ byStep (served ts rs) rs
   unfolding byStep asTally
   decides rs t q h =
       let e = q ∙ counted-all rs in
-      let u : union (served (steps home groups caller file) rs .by) < 256 = subst (λ (x : Tally). x .rights < 256) e h in
-      rw e (ap (λ (x : ℕ). record { says = done (x ∷ []); start = asTally (masking rs 255) (served (steps home groups caller file) rs) .start; size = asTally (masking rs 255) (served (steps home groups caller file) rs) .size }) (all-allowed rs home groups caller file u))
+      let u : union (served ts rs .by) < 256 = subst (λ (x : Tally). x .rights < 256) e h in
+      let p = first (served ts rs .by) in
+      rw e (ap (λ (x : ℕ). record { says = done (x ∷ []); start = p .at; size = p .it .size }) (all-allowed rs home groups caller file u))
 
 module _ {l groups : List ℕ} {caller : Caller} {file : File} where
   -- how a pass ends
@@ -56,7 +57,7 @@ module _ {l groups : List ℕ} {caller : Caller} {file : File} where
   ends-refused q = record { check = sym q; tally = λ t e. let z : _≡_ {A = ℕ} 0 1 = cc in absurd (omega arith) }
 
   pub ends-fine : {t : Tally} (home : Bool) → home ≡ sameRealm (caller .realm) (realmAt 1 l) → checkSays l ≡ done []
-      → t ≡ foldl (add home groups caller file) noTally (records l) → Passes l groups caller file (Fine t)
+      → t ≡ foldl (tallying (steps home groups caller file)) noTally (records l) → Passes l groups caller file (Fine t)
   unfolding passSays tallyIn
   ends-fine {t = t} home h q e = record { check = sym q; tally = λ u p. let i : t ≡ u = cc in rw (← h) (sym i ∙ e) }
 

@@ -48,7 +48,7 @@ module _ (list groups : List ℕ) (user group : ℕ) (file : File) (passes : che
   early = take 5 (steps false groups caller file)
 
   unserved-early : NoneApplies early (records list)
-  unfolding NoneApplies steps here abroad masked unmasked
+  unfolding Each steps here abroad masked unmasked
   unserved-early = (
     unserved _ (λ r s. refl),
     (

@@ -36,6 +36,7 @@ byStep s rs = record { says = done (rightsBy s rs ∷ []); start = first (s .by)
 unfoldable pub servedIn : List ℕ → List ℕ → Caller → File → Served
 servedIn list groups caller file = served (steps (sameRealm (caller .realm) (realmAt 1 list)) groups caller file) (records list)
 
+-- what a list gives a caller on a file
 unfoldable pub evaluation : List ℕ → List ℕ → Caller → File → Decided
 evaluation list groups caller file = unlessRefused (checkSays list) (byStep (servedIn list groups caller file) (records list))
 

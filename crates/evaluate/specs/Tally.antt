@@ -46,11 +46,13 @@ tallied t step p = if isMask p then withMask t (p .it) else counted t step p
 unfoldable pub allowed : Tally → ℕ
 allowed t = if eqb (t .step) 1 || eqb (t .step) 4 then t .rights else bitAnd (t .rights) (t .mask)
 
+-- with one more record, by these steps
+abbrev pub tallying : List Step → Tally → Placed → Tally
+tallying ts t p = tallied t (stepFrom 1 ts (p .it)) p
+
 -- of all records of a list
 unfoldable pub tallyIn : List ℕ → List ℕ → Caller → File → Tally
-tallyIn list groups caller file =
-    let ts = steps (sameRealm (caller .realm) (realmAt 1 list)) groups caller file in
-    foldl (λ (t : Tally) (p : Placed). tallied t (stepFrom 1 ts (p .it)) p) noTally (records list)
+tallyIn list groups caller file = foldl (tallying (steps (sameRealm (caller .realm) (realmAt 1 list)) groups caller file)) noTally (records list)
 
 unfoldable pub passSays : Passed → Said
 passSays (Refused number place) = refused number (place ∷ [])

@@ -12,8 +12,7 @@ pub enum Verdict {
     Refused { number: u8, place: usize },
 }
 
-// The pass for an unauthenticated caller, whose rights are not looked at: with a loop of its own this would be slower, and so would
-// be the other.
+// The pass for an unauthenticated caller, whose rights are not looked at: one loop serves both, since two would each be slower.
 pub fn check_list(list: &[u8]) -> Verdict
     ensures { λ r. ⌜ Checks (now (list .entry)) r ⌝ }
 {

@@ -14,16 +14,17 @@ use Rattle.evaluate.specs.declared.asking.File.{File}
 use Rattle.rights.specs.Deciding.{decided}
 use Rattle.rights.specs.declared.guard.Guard.the-variants.{List as ByList, Mode}
 
--- rights with the deciding record's place and length, or the refusal
+-- what is said, with the deciding record's place and length after its values
 unfoldable pub shown : Said → ℕ → ℕ → Said
 shown (done values) start size = done (values ++ (start ∷ size ∷ []))
-shown (refused number values) start size = refused number values
+shown (refused number values) start size = refused number (values ++ (start ∷ size ∷ []))
 
 unfoldable pub gives : ℕ → ℕ → ℕ → Decided → Line
 gives rights start size d = line (shown (d .says) (d .start) (d .size)) (done (rights ∷ start ∷ size ∷ []))
 
+-- a refusal hands back the empty part at the beginning
 unfoldable pub refusing : ℕ → List ℕ → Decided → Line
-refusing number values d = line (shown (d .says) (d .start) (d .size)) (refused number values)
+refusing number values d = line (shown (d .says) (d .start) (d .size)) (refused number (values ++ (0 ∷ 0 ∷ [])))
 
 -- sixteen times 17, and sixteen times 18
 unfoldable pub realmR : Realm

@@ -21,6 +21,7 @@ use Rattle.rights.specs.declared.answer.Answer.the-variants.{Rights, Ref
 use Rattle.rights.specs.declared.answer.Found.{Found}
 use Rattle.rights.specs.declared.decision.Decision.{Decision}
 
+-- with a mode no record decides
 unfoldable pub byMode : List ℕ → Caller → File → Realm → ℕ → Decided
 byMode groups caller file local mode =
     if sameRealm local unknownRealm then bare (refused 16 (0 ∷ [])) else
@@ -31,6 +32,7 @@ unfoldable pub byGuard : Guard → List ℕ → List ℕ → Caller → File →
 byGuard ByList list groups caller file = evaluation list groups caller file
 byGuard (Mode realm mode) list groups caller file = byMode groups caller file realm mode
 
+-- 23 comes before the guard is looked at
 unfoldable pub decided : List ℕ → List ℕ → Caller → File → Guard → Decided
 decided list groups caller file guard =
     if ltb 32 (length groups) then bare (refused 23 []) else

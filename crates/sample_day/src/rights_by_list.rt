@@ -56,18 +56,19 @@ pub(crate) fn ours() {
     many_groups();
 }
 
+// The same, with the list's name before the user's.
+fn try_user(list_name: &[u8], name: &[u8], list: Draft, realm: u8, id: u32, group: u32) {
+    text(list_name);
+    user(name, list, realm, id, group);
+}
+
 // Each list is tried by these users of a realm.
 fn users(name: &[u8], list: Draft, realm: u8) {
-    text(name);
-    user(b", 9 in group 4", list, realm, 9, 4);
-    text(name);
-    user(b", 7 in group 4", list, realm, 7, 4);
-    text(name);
-    user(b", 8 in group 4", list, realm, 8, 4);
-    text(name);
-    user(b", 8", list, realm, 8, 1);
-    text(name);
-    user(b", 263", list, realm, 263, 1);
+    try_user(name, b", 9 in group 4", list, realm, 9, 4);
+    try_user(name, b", 7 in group 4", list, realm, 7, 4);
+    try_user(name, b", 8 in group 4", list, realm, 8, 4);
+    try_user(name, b", 8", list, realm, 8, 1);
+    try_user(name, b", 263", list, realm, 263, 1);
 }
 
 // The mask takes read from all but user_obj and other_obj.
@@ -114,8 +115,9 @@ fn users_from_abroad() {
     user(b"foreign user 7 in group 5", foreign(), 18, 7, 5);
 }
 
-// User 8 of a realm, its group and two more.
-fn member(name: &[u8], list: Draft, realm: u8, group: u32, more: [u32; 2]) {
+// User 8 of a realm, its group and two more, with the list's name before theirs.
+fn try_groups(list_name: &[u8], name: &[u8], list: Draft, realm: u8, group: u32, more: [u32; 2]) {
+    text(list_name);
     ask(
         name,
         list,
@@ -128,24 +130,29 @@ fn member(name: &[u8], list: Draft, realm: u8, group: u32, more: [u32; 2]) {
 
 // Each list is tried by these members of a realm; the last two have groups that only end like the list's.
 fn groups(name: &[u8], list: Draft, realm: u8) {
-    text(name);
-    member(b", groups 4, 5, 6", list, realm, 4, [5, 6]);
-    text(name);
-    member(b", groups 5, 6, 1", list, realm, 5, [6, 1]);
-    text(name);
-    member(b", groups 6, 5, 1", list, realm, 6, [5, 1]);
-    text(name);
-    member(b", groups 6, 6, 6", list, realm, 6, [6, 6]);
-    text(name);
-    member(b", groups 6, 1, 1", list, realm, 6, [1, 1]);
-    text(name);
-    member(b", groups 1, 6, 1", list, realm, 1, [6, 1]);
-    text(name);
-    member(b", groups 1, 1, 4", list, realm, 1, [1, 4]);
-    text(name);
-    member(b", groups 260, 261, 262", list, realm, 260, [261, 262]);
-    text(name);
-    member(b", groups 0, 1, 16777221", list, realm, 0, [1, 16777221]);
+    try_groups(name, b", groups 4, 5, 6", list, realm, 4, [5, 6]);
+    try_groups(name, b", groups 5, 6, 1", list, realm, 5, [6, 1]);
+    try_groups(name, b", groups 6, 5, 1", list, realm, 6, [5, 1]);
+    try_groups(name, b", groups 6, 6, 6", list, realm, 6, [6, 6]);
+    try_groups(name, b", groups 6, 1, 1", list, realm, 6, [1, 1]);
+    try_groups(name, b", groups 1, 6, 1", list, realm, 1, [6, 1]);
+    try_groups(name, b", groups 1, 1, 4", list, realm, 1, [1, 4]);
+    try_groups(
+        name,
+        b", groups 260, 261, 262",
+        list,
+        realm,
+        260,
+        [261, 262],
+    );
+    try_groups(
+        name,
+        b", groups 0, 1, 16777221",
+        list,
+        realm,
+        0,
+        [1, 16777221],
+    );
 }
 
 // All that match count; the first in the list decides, not the caller's first.

@@ -18,18 +18,14 @@ pub(crate) fn number(n: u64) {
     io::print_decimal(STDOUT_FILENO, n);
 }
 
-fn refused(refusal: u8, place: usize) {
-    text(b"refused ");
-    number(refusal as u64);
-    text(b" at ");
-    number(place as u64);
-    text(b"\n");
+fn counted(words: &[u8], n: u64) {
+    text(words);
+    number(n);
 }
 
-fn refused_nowhere(refusal: u8) {
-    text(b"refused ");
-    number(refusal as u64);
-    text(b"\n");
+fn refused(refusal: u8, place: usize) {
+    counted(b"refused ", refusal as u64);
+    counted(b" at ", place as u64);
 }
 
 // What the check says of the first n bytes.
@@ -40,9 +36,10 @@ pub(crate) fn check_first(name: &[u8], list: &[u8], n: usize) {
     text(name);
     text(b": ");
     match check_list(&list[0..n]) {
-        Verdict::Fine => text(b"done\n"),
+        Verdict::Fine => text(b"done"),
         Verdict::Refused { number, place } => refused(number, place),
     }
+    text(b"\n");
 }
 
 pub(crate) fn check(name: &[u8], list: Draft) {
@@ -51,30 +48,30 @@ pub(crate) fn check(name: &[u8], list: Draft) {
     check_first(name, &bytes, n);
 }
 
-// The rights, and the deciding record by its length and place.
-fn allowed(rights: u8, start: usize, size: usize) {
-    text(b"rights ");
-    number(rights as u64);
+fn told(answer: Answer) {
+    match answer {
+        Answer::Rights(rights) => counted(b"rights ", rights as u64),
+        Answer::Refused { number } => counted(b"refused ", number as u64),
+        Answer::RefusedAt { number, place } => refused(number, place),
+    }
+}
+
+// The deciding record by its length and place, where there is one.
+fn part(start: usize, size: usize) {
     if (start == 0) & (size == 0) {
-        text(b", no record\n");
         return;
     }
-    text(b", ");
-    number(size as u64);
-    text(b" bytes at ");
-    number(start as u64);
-    text(b"\n");
+    counted(b", ", size as u64);
+    counted(b" bytes at ", start as u64);
 }
 
 pub(crate) fn found(name: &[u8], f: Found) {
     text(name);
     text(b": ");
     let answer = f.answer;
-    match answer {
-        Answer::Rights(rights) => allowed(rights, f.start, f.size),
-        Answer::Refused { number } => refused_nowhere(number),
-        Answer::RefusedAt { number, place } => refused(number, place),
-    }
+    told(answer);
+    part(f.start, f.size);
+    text(b"\n");
 }
 
 // The first n bytes, or as many as there are.

@@ -7,13 +7,14 @@ use Rattle.list.specs.Checking.{placed}
 use Rattle.list.specs.Walking.{startOf}
 use Rattle.list.specs.declared.walk.Walk.{Walk}
 use Rattle.list.proofs.Runs.{Leads, starts, goes, falls, refuses, passes-all, gathers-all}
-use Rattle.evaluate.specs.Tally.{noTally}
-use Rattle.evaluate.proofs.Passing.{add, ends-refused, ends-fine}
+use Rattle.evaluate.specs.Steps.{steps}
+use Rattle.evaluate.specs.Tally.{noTally, tallying}
+use Rattle.evaluate.proofs.Passing.{ends-refused, ends-fine}
 use Rattle.evaluate.proofs.pass.pass.Statement.{statement}
 use Rattle.evaluate.proofs.pass.pass.Tie as tie
 
 abbrev Inv-loop : tie.InvT-loop
-Inv-loop list groups caller file walk₀ home tally₀ walk tally = Leads (add home groups caller file) list noTally tally walk
+Inv-loop list groups caller file walk₀ home tally₀ walk tally = Leads (tallying (steps home groups caller file)) list noTally tally walk
 
 abbrev μ-loop : tie.MeasureT-loop
 μ-loop list groups caller file walk₀ home tally₀ walk tally = length list - walk .at
@@ -28,7 +29,7 @@ pass-spec =
     (λ c κs. search needs)
     (λ c κs. search needs)
     (λ c κs. search needs)
-    (λ c. rw (c .before .before .start .ensures .answer, c .no-tally .ensures) (starts (add _ _ _ _) _ noTally))
+    (λ c. rw (c .before .before .start .ensures .answer, c .no-tally .ensures) (starts (tallying _) _ noTally))
     (λ c κs. search needs)
     (λ c. search needs)
     (λ c κs. search needs)
