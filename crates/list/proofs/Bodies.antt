@@ -14,7 +14,7 @@ unfoldable pub everyBelow : ℕ → (ℕ → Bool) → Bool
 everyBelow zero test = true
 everyBelow (suc n) test = everyBelow n test && test n
 
-below : (n : ℕ) (test : ℕ → Bool) → everyBelow n test ≡ true → (k : ℕ) → k < n → test k ≡ true
+pub below : (n : ℕ) (test : ℕ → Bool) → everyBelow n test ≡ true → (k : ℕ) → k < n → test k ≡ true
 unfolding everyBelow
 below zero test t k h = absurd (omega arith)
 below (suc n) test t k h = go (λ p. below n test p k) (eqb k n) refl
@@ -75,3 +75,23 @@ foreign-told k = go (ltb k 12) refl
 pub some-size : (k : ℕ) → 0 < size k
 unfolding size
 some-size k = omega arith
+
+-- a part of a body is missing or has its one length
+unfoldable pub either : ℕ → ℕ → Bool
+either n x = eqb x 0 || eqb x n
+
+pub full : (n x : ℕ) → either n x ≡ true → eqb x 0 ≡ false → x ≡ n
+unfolding either
+full n x t q = eqb-true x n (rw q at t)
+
+pub realm-length : (k : ℕ) → either 16 (bodyOf k .realm) ≡ true
+unfolding either everyBelow bodyOf bodies body
+realm-length = everywhere (λ b. either 16 (b .realm)) refl refl
+
+pub id-length : (k : ℕ) → either 4 (bodyOf k .id) ≡ true
+unfolding either everyBelow bodyOf bodies body
+id-length = everywhere (λ b. either 4 (b .id)) refl refl
+
+pub rights-length : (k : ℕ) → either 1 (bodyOf k .rights) ≡ true
+unfolding either everyBelow bodyOf bodies body
+rights-length = everywhere (λ b. either 1 (b .rights)) refl refl

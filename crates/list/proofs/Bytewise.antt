@@ -18,30 +18,14 @@ use Rattle.list.specs.Fault.{rises}
 use Rattle.list.specs.Bytewise.{key, risesInBytes}
 use Rattle.list.specs.declared.records.Record.{Record}
 use Rattle.list.specs.declared.records.Read.the-variants.{Whole}
-use Rattle.list.proofs.Bodies.{everyBelow, everywhere, some-size}
+use Rattle.list.proofs.Bodies.{either, full, realm-length, id-length, some-size}
 use Rattle.list.proofs.Tails.{Is, is}
-
--- a part of a body is missing or has its one length
-either : ℕ → ℕ → Bool
-either n x = eqb x 0 || eqb x n
-
-full : (n x : ℕ) → either n x ≡ true → eqb x 0 ≡ false → x ≡ n
-unfolding either
-full n x t q = eqb-true x n (rw q at t)
-
-realm-length : (k : ℕ) → either 16 (bodyOf k .realm) ≡ true
-unfolding either everyBelow bodyOf bodies body
-realm-length = everywhere (λ b. either 16 (b .realm)) refl refl
-
-id-length : (k : ℕ) → either 4 (bodyOf k .id) ≡ true
-unfolding either everyBelow bodyOf bodies body
-id-length = everywhere (λ b. either 4 (b .id)) refl refl
 
 -- what follows the kind in a key
 body-key : ℕ → List ℕ → List ℕ
 body-key k t = if eqb k 1 then [] else part 1 (bodyOf k .realm) t ++ (part (1 + bodyOf k .realm) (bodyOf k .id) t ++ [])
 
-first-byte : (t : List ℕ) → 0 < length t → take 1 t ≡ getD t 0 0 ∷ []
+pub first-byte : (t : List ℕ) → 0 < length t → take 1 t ≡ getD t 0 0 ∷ []
 first-byte [] h = absurd (omega arith)
 first-byte (x ∷ xs) h = refl
 

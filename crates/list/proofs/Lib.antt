@@ -1,6 +1,7 @@
 pub mod Bodies
 pub mod Tails
 pub mod Rising
+pub mod Ordered
 pub mod Marks
 pub mod Runs
 pub mod Whole

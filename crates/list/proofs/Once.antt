@@ -21,7 +21,7 @@ use Rattle.list.proofs.Tails.{Is}
 use Rattle.list.proofs.Passed.{Chain, all-follow}
 
 -- kinds do not fall
-kinds-rise : (e r : Record) → rises e r ≡ true → e .kind ≤ r .kind
+pub kinds-rise : (e r : Record) → rises e r ≡ true → e .kind ≤ r .kind
 unfolding rises
 kinds-rise e r = go (ltb (e .kind) (r .kind)) (eqb (e .kind) (r .kind)) refl refl
   where

@@ -29,7 +29,7 @@ pub record Sound (home : Realm) (r : Record) : Type 0 where
 abbrev pub IsSound : Realm → Placed → Type 0
 IsSound home p = Sound home (p .it)
 
-no-refusal : (place number : ℕ) (rest : Said) (v : List ℕ) → andThen (refusedAt place number) rest ≡ done v → (number ≡ 0) × (rest ≡ done v)
+pub no-refusal : (place number : ℕ) (rest : Said) (v : List ℕ) → andThen (refusedAt place number) rest ≡ done v → (number ≡ 0) × (rest ≡ done v)
 unfolding refusedAt andThen
 no-refusal place number rest v = go (eqb number 0) refl
   where
@@ -79,22 +79,43 @@ chained home earlier (suc fuel) at t v = go (λ e at u. chained home e fuel at u
         let s = sound home earlier r (n .0) in
         (record { sound = s .0; order = s .1; tail = t; read = is t r e }, ih r (at + r .size) (drop (r .size) t) (n .1))
 
--- a list that passes begins with kind 1, and no record earns a refusal
-passes : (list : List ℕ) → checkSays list ≡ done [] → (begins list ≡ true) × ((v : List ℕ) × (faultsAfter (realmAt 1 list) noRecord (cut list) ≡ done v))
-unfolding checkSays andThen
-passes list = go (ltb 4096 (length list)) (begins list) (faultsAfter (realmAt 1 list) noRecord (cut list)) refl refl
+no-last-refusal : (place number : ℕ) (v : List ℕ) → refusedAt place number ≡ done v → number ≡ 0
+unfolding refusedAt
+no-last-refusal place number v = go (eqb number 0) refl
   where
-    go : (a b : Bool) (said : Said) → begins list ≡ b → faultsAfter (realmAt 1 list) noRecord (cut list) ≡ said
+    go : (b : Bool) → eqb number 0 ≡ b → (if b then done [] else refused number (place ∷ [])) ≡ done v → number ≡ 0
+    go true q p = eqb-true number 0 q
+    go false q p = let z : _≡_ {A = ℕ} 0 1 = cc in absurd (omega arith)
+
+-- a list that passes: no refusal of it is earned
+pub record Passing (list : List ℕ) : Type 0 where
+  pub short : ltb 4096 (length list) ≡ false
+  pub begun : begins list ≡ true
+  pub values : List ℕ
+  pub faultless : faultsAfter (realmAt 1 list) noRecord (cut list) ≡ done values
+  pub ended : endFault (seenIn (records list)) ≡ 0
+
+pub passes : (list : List ℕ) → checkSays list ≡ done [] → Passing list
+unfolding checkSays andThen
+passes list = go (ltb 4096 (length list)) (begins list) (faultsAfter (realmAt 1 list) noRecord (cut list)) refl refl refl
+  where
+    go : (a b : Bool) (said : Said) → ltb 4096 (length list) ≡ a → begins list ≡ b → faultsAfter (realmAt 1 list) noRecord (cut list) ≡ said
         → (if a then refused 10 (0 ∷ []) else if not b then refused 11 (0 ∷ []) else andThen said (refusedAt (length list) (endFault (seenIn (records list))))) ≡ done []
-        → (begins list ≡ true) × ((v : List ℕ) × (faultsAfter (realmAt 1 list) noRecord (cut list) ≡ done v))
-    go true b said k p q = let z : _≡_ {A = ℕ} 0 1 = cc in absurd (omega arith)
-    go false false said k p q = let z : _≡_ {A = ℕ} 0 1 = cc in absurd (omega arith)
-    go false true (done v) k p q = (k, (v, p))
-    go false true (refused number values) k p q = let z : _≡_ {A = ℕ} 0 1 = cc in absurd (omega arith)
+        → Passing list
+    go true b said h k p q = let z : _≡_ {A = ℕ} 0 1 = cc in absurd (omega arith)
+    go false false said h k p q = let z : _≡_ {A = ℕ} 0 1 = cc in absurd (omega arith)
+    go false true (done v) h k p q = record {
+      short = h;
+      begun = k;
+      values = v;
+      faultless = p;
+      ended = no-last-refusal (length list) (endFault (seenIn (records list))) [] q;
+    }
+    go false true (refused number values) h k p q = let z : _≡_ {A = ℕ} 0 1 = cc in absurd (omega arith)
 
 pub all-follow : (list : List ℕ) → checkSays list ≡ done [] → Chain (realmAt 1 list) noRecord (records list)
 unfolding records cut
-all-follow list q = let p = passes list q .1 in chained (realmAt 1 list) noRecord (length list) 0 list (p .0) (p .1)
+all-follow list q = let p = passes list q in chained (realmAt 1 list) noRecord (length list) 0 list (p .values) (p .faultless)
 
 each-sound : (home : Realm) (earlier : Record) (ps : List Placed) → Chain home earlier ps → Each (IsSound home) ps
 unfolding Chain Each
@@ -104,6 +125,11 @@ each-sound home earlier (p ∷ ps) c = (c .0 .sound, each-sound home (p .it) ps 
 pub all-sound : (list : List ℕ) → checkSays list ≡ done [] → Each (IsSound (realmAt 1 list)) (records list)
 all-sound list q = each-sound (realmAt 1 list) noRecord (records list) (all-follow list q)
 
+-- a record of kind 1 says the default realm
+pub named : (t : List ℕ) (r : Record) → getD t 0 0 ≡ 1 → Is t r → r .realm ≡ realmAt 1 t
+unfolding recordOf bodyOf bodies body
+named t r k i = rw (← i .same, k) refl
+
 -- the record of the default realm is sound too
 module _ (x : ℕ) (xs : List ℕ) (q : checkSays (x ∷ xs) ≡ done []) where
   list : List ℕ
@@ -111,28 +137,24 @@ module _ (x : ℕ) (xs : List ℕ) (q : checkSays (x ∷ xs) ≡ done []) where
 
   first-kind : getD list 0 0 ≡ 1
   unfolding begins list
-  first-kind = eqb-true x 1 (passes (x ∷ xs) q .0)
+  first-kind = eqb-true x 1 (passes (x ∷ xs) q .begun)
 
   head-passes : fault (realmAt 1 list) noRecord (readOf list) ≡ 0
   unfolding cut cutFrom faultsAfter found list
   head-passes =
-      let p = passes (x ∷ xs) q .1 in
+      let p = passes (x ∷ xs) q in
       let some = ne-eqb (length (x ∷ xs)) 0 (λ e. omega arith) in
-      no-refusal 0 (fault (realmAt 1 list) noRecord (readOf list)) (faultsAfter (realmAt 1 list) (passed (readOf list)) (whenWhole (readOf list) (λ r. cutFrom (length xs) (0 + r .size) (drop (r .size) list)) [])) (p .0) (rw some at (p .1)) .0
-
-  named : (r : Record) → Is list r → r .realm ≡ realmAt 1 list
-  unfolding recordOf bodyOf bodies body
-  named r i = rw (← i .same, first-kind) refl
+      no-refusal 0 (fault (realmAt 1 list) noRecord (readOf list)) (faultsAfter (realmAt 1 list) (passed (readOf list)) (whenWhole (readOf list) (λ r. cutFrom (length xs) (0 + r .size) (drop (r .size) list)) [])) (p .values) (rw some at (p .faultless)) .0
 
   of-head : (read : Read) → readOf list ≡ read → fault (realmAt 1 list) noRecord read ≡ 0 → sameRealm (realmAt 1 list) unknownRealm ≡ false
   unfolding fault isForbidden list
   of-head Nothing e h = absurd (omega (arith, empty list e))
   of-head Unknown e h = absurd (omega arith)
   of-head Short e h = absurd (omega arith)
-  of-head (Whole r) e h = rw (← named r (is list r e)) (or-left _ _ (sound (realmAt 1 list) noRecord r h .0 .realm))
+  of-head (Whole r) e h = rw (← named list r first-kind (is list r e)) (or-left _ _ (sound (realmAt 1 list) noRecord r h .0 .realm))
 
 -- the default realm of a list that passes is known
 pub default-known : (list : List ℕ) → checkSays list ≡ done [] → sameRealm (realmAt 1 list) unknownRealm ≡ false
 unfolding begins list
-default-known [] q = let b = eqb-true 0 1 (passes [] q .0) in absurd (omega arith)
+default-known [] q = let b = eqb-true 0 1 (passes [] q .begun) in absurd (omega arith)
 default-known (x ∷ xs) q = of-head x xs q (readOf (x ∷ xs)) refl (head-passes x xs q)

@@ -18,20 +18,21 @@ use Rattle.list.specs.declared.records.Read.the-variants.{Nothing, Unkno
 
 -- a whole record at the head of a tail
 pub record Is (t : List ℕ) (r : Record) : Type 0 where
+  pub known : isKnown (getD t 0 0) ≡ true
   pub enough : size (getD t 0 0) ≤ length t
   pub same : recordOf (getD t 0 0) t ≡ r
 
 pub is : (t : List ℕ) (r : Record) → readOf t ≡ Whole r → Is t r
 unfolding readOf readAs
-is t r = go (eqb (length t) 0) (isKnown (getD t 0 0)) (ltb (length t) (size (getD t 0 0))) refl
+is t r = go (eqb (length t) 0) (isKnown (getD t 0 0)) (ltb (length t) (size (getD t 0 0))) refl refl
   where
-    go : (a b c : Bool) → ltb (length t) (size (getD t 0 0)) ≡ c
+    go : (a b c : Bool) → isKnown (getD t 0 0) ≡ b → ltb (length t) (size (getD t 0 0)) ≡ c
         → (if a then Nothing else if not b then Unknown else if c then Short else Whole (recordOf (getD t 0 0) t)) ≡ Whole r
         → Is t r
-    go true b c k q = let z : _≡_ {A = ℕ} 0 1 = cc in absurd (omega arith)
-    go false false c k q = let z : _≡_ {A = ℕ} 0 1 = cc in absurd (omega arith)
-    go false true true k q = let z : _≡_ {A = ℕ} 0 1 = cc in absurd (omega arith)
-    go false true false k q = record { enough = ltb-false (length t) (size (getD t 0 0)) k; same = cc }
+    go true b c h k q = let z : _≡_ {A = ℕ} 0 1 = cc in absurd (omega arith)
+    go false false c h k q = let z : _≡_ {A = ℕ} 0 1 = cc in absurd (omega arith)
+    go false true true h k q = let z : _≡_ {A = ℕ} 0 1 = cc in absurd (omega arith)
+    go false true false h k q = record { known = h; enough = ltb-false (length t) (size (getD t 0 0)) k; same = cc }
 
 -- it has its kind's length, and ends within the tail
 pub sized : (t : List ℕ) (r : Record) → Is t r → r .size ≡ size (getD t 0 0)

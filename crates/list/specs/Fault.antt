@@ -1,4 +1,5 @@
 -- Refusal 11 of a list, refusals 12 to 16 of one record by the default realm and the record before it, refusals 17 to 19 of all of them.
+use mathlib.Core.Path.{_≡_}
 use mathlib.Core.Bool.{Bool, not, _||_, _&&_}
 use mathlib.Core.List.{List}
 use Prim.Native.Nat.{ℕ, _/_, _%_}
@@ -62,3 +63,15 @@ endFault seen =
     if seen .wanting && not (seen .mask) then 18 else
     if seen .powerless then 19 else
     0
+
+-- telling whether a record may stand after another
+pub record TellsOrder (earlier r : Record) (b : Bool) : Type 0 where
+  pub answer : b ≡ rises earlier r
+
+-- telling whether a record's realm is forbidden
+pub record TellsForbidden (home : Realm) (r : Record) (b : Bool) : Type 0 where
+  pub answer : b ≡ isForbidden home r
+
+-- telling whether a record is a user_obj without control
+pub record TellsPowerless (r : Record) (b : Bool) : Type 0 where
+  pub answer : b ≡ lacksControl r

@@ -17,13 +17,13 @@ use words::Realm;
 use words::is_unknown;
 use words::same_realm;
 ghost use mathlib.Core.Path.{_≡_};
-ghost use Rattle.list.specs.Fault.{rises, isForbidden, fault, lacksControl, endFault};
+ghost use Rattle.list.specs.Fault.{fault, endFault, TellsOrder, TellsForbidden, TellsPowerless};
 ghost use Rattle.list.specs.Walking.{markOf, seenOf};
 ghost use Rattle.list.specs.declared.records.Read.the-variants.{Whole};
 
 // By kind, then by body without rights: the numbers' order is the bytes' order.
-fn in_order(earlier: Record, r: Record) -> bool
-    ensures { λ b. ⌜ b ≡ rises earlier r ⌝ }
+pub fn in_order(earlier: Record, r: Record) -> bool
+    ensures { λ b. ⌜ TellsOrder earlier r b ⌝ }
 {
     if earlier.kind != r.kind {
         return earlier.kind < r.kind;
@@ -42,8 +42,9 @@ fn in_order(earlier: Record, r: Record) -> bool
     earlier.id < r.id
 }
 
-fn is_forbidden(home: Realm, r: Record) -> bool
-    ensures { λ b. ⌜ b ≡ isForbidden home r ⌝ }
+// The unknown realm, or the default realm in a foreign record.
+pub fn is_forbidden(home: Realm, r: Record) -> bool
+    ensures { λ b. ⌜ TellsForbidden home r b ⌝ }
 {
     let realm = r.realm;
     if is_unknown(realm) {
@@ -71,8 +72,9 @@ pub(crate) fn fault_of(home: Realm, earlier: Record, r: Record) -> u8
     0
 }
 
-fn lacks_control(r: Record) -> bool
-    ensures { λ b. ⌜ b ≡ lacksControl r ⌝ }
+// A user_obj without control.
+pub fn lacks_control(r: Record) -> bool
+    ensures { λ b. ⌜ TellsPowerless r b ⌝ }
 {
     (r.kind == USER_OBJ) & (r.rights / 8 % 2 == 0)
 }

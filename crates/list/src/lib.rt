@@ -5,6 +5,9 @@ mod records;
 pub mod refusal;
 mod walk;
 
+pub use faults::in_order;
+pub use faults::is_forbidden;
+pub use faults::lacks_control;
 pub use records::Read;
 pub use records::Record;
 pub use records::read_record;

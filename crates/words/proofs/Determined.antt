@@ -4,7 +4,8 @@ use mathlib.Core.Bool.{Bool}
 use mathlib.Core.List.{List}
 use Prim.Native.Nat.{ℕ}
 use Rattle.words.specs.Number.{ReadsNumber}
-use Rattle.words.specs.Realm.{ReadsRealm, TellsRealms, TellsUnknown}
+use Rattle.words.specs.Writing.{WritesNumber}
+use Rattle.words.specs.Realm.{ReadsRealm, WritesRealm, TellsRealms, TellsUnknown}
 use Rattle.words.specs.declared.realm.Realm.{Realm}
 
 -- where an answer can be read back from what it says, two answers that say the same are equal
@@ -23,3 +24,11 @@ same-realm-determined a b r r′ p q = p .answer ∙ sym (q .answer)
 
 pub is-unknown-determined : (realm : Realm) (r r′ : Bool) → TellsUnknown realm r → TellsUnknown realm r′ → r ≡ r′
 is-unknown-determined realm r r′ p q = p .answer ∙ sym (q .answer)
+
+pub write-number32-determined : (n : ℕ) (bytes : List ℕ) (at : ℕ) (after after′ : List ℕ)
+    → WritesNumber 4 n bytes at after → WritesNumber 4 n bytes at after′ → after ≡ after′
+write-number32-determined n bytes at after after′ p q = p .bytes-after ∙ sym (q .bytes-after)
+
+pub write-realm-determined : (realm : Realm) (bytes : List ℕ) (at : ℕ) (after after′ : List ℕ)
+    → WritesRealm realm bytes at after → WritesRealm realm bytes at after′ → after ≡ after′
+write-realm-determined realm bytes at after after′ p q = p .bytes-after ∙ sym (q .bytes-after)

@@ -1,7 +1,7 @@
 -- Comparing numbers is comparing their bytes. Assumes nothing.
 use mathlib.Core.Path.{_≡_, refl, sym, _∙_, ap}
 use mathlib.Core.List.{List, [], _∷_, _++_, append-assoc}
-use mathlib.Core.Bool.{Bool, true, false, _&&_, and-false, or-false}
+use mathlib.Core.Bool.{Bool, true, false, _||_, _&&_, and-false, or-false}
 use Prim.Native.Nat.{ℕ, suc, _+_, _*_, _/_, _%_, _^_, _≤_, _<_}
 use native.Mathlib.Nat.{le-of-eq}
 use native.Mathlib.Omega.{arith}
@@ -13,7 +13,7 @@ use lib.Seq.{take-at, drop-at}
 use Rattle.words.specs.Number.{Bytes, numberFrom, number, part, within, numberAt, less, before}
 use Rattle.words.specs.Realm.{realmAt, sameRealm, lessRealm}
 use Rattle.words.specs.declared.realm.Realm.{Realm}
-use Rattle.words.proofs.Tests.{and-left, and-right}
+use Rattle.words.proofs.Tests.{and-left, and-right, differ}
 use Rattle.words.proofs.Digits.{first, bounded, part-length, part-bytes, part-add}
 
 -- `less` by what is known of its numbers
@@ -31,6 +31,34 @@ tied a b lower e = simp (eq-eqb a b e, le-ltb a b (le-of-eq (sym e)))
 
 pub less-last : (a b : ℕ) → less a b false ≡ ltb a b
 less-last a b = simp (and-false, or-false)
+
+-- `less` as an order: by what the lower places say where the upper ones are equal
+pub less-trans : (a b c : ℕ) (x y z : Bool) → less a b x ≡ true → less b c y ≡ true → (x ≡ true → y ≡ true → z ≡ true) → less a c z ≡ true
+less-trans a b c x y z p q lower = go (ltb a b) (ltb b c) refl refl p q
+  where
+    go : (s t : Bool) → ltb a b ≡ s → ltb b c ≡ t → (s || (eqb a b && x)) ≡ true → (t || (eqb b c && y)) ≡ true → less a c z ≡ true
+    go true true h k p q = less-lt a c z (omega (arith, ltb-true a b h, ltb-true b c k))
+    go true false h k p q = less-lt a c z (omega (arith, ltb-true a b h, eqb-true b c (and-left (eqb b c) y q)))
+    go false true h k p q = less-lt a c z (omega (arith, ltb-true b c k, eqb-true a b (and-left (eqb a b) x p)))
+    go false false h k p q =
+        tied a c z (eqb-true a b (and-left (eqb a b) x p) ∙ eqb-true b c (and-left (eqb b c) y q))
+        ∙ lower (and-right (eqb a b) x p) (and-right (eqb b c) y q)
+
+pub less-asym : (a b : ℕ) (x y : Bool) → less a b x ≡ true → (x ≡ true → y ≡ false) → less b a y ≡ false
+less-asym a b x y p lower = go (ltb a b) refl p
+  where
+    go : (s : Bool) → ltb a b ≡ s → (s || (eqb a b && x)) ≡ true → less b a y ≡ false
+    go true h p = less-gt b a y (ltb-true a b h)
+    go false h p = tied b a y (sym (eqb-true a b (and-left (eqb a b) x p))) ∙ lower (and-right (eqb a b) x p)
+
+pub less-total : (a b : ℕ) (x y : Bool) → less a b x ≡ false → less b a y ≡ false → (a ≡ b) × (x ≡ false) × (y ≡ false)
+less-total a b x y p q = go (ltb a b) (ltb b a) refl refl
+  where
+    go : (s t : Bool) → ltb a b ≡ s → ltb b a ≡ t → (a ≡ b) × (x ≡ false) × (y ≡ false)
+    go true t h k = let z : true ≡ false = sym (less-lt a b x (ltb-true a b h)) ∙ p in absurd (differ z)
+    go false true h k = let z : true ≡ false = sym (less-lt b a y (ltb-true b a k)) ∙ q in absurd (differ z)
+    go false false h k =
+        let e : a ≡ b = omega (arith, ltb-false a b h, ltb-false b a k) in (e, sym (tied a b x e) ∙ p, sym (tied b a y (sym e)) ∙ q)
 
 -- two pairs that are ordered alike
 alike : (a b c d : ℕ) (r : Bool) → (a < b → c < d) → (a ≡ b → c ≡ d) → (b < a → d < c) → less c d r ≡ less a b r
@@ -103,7 +131,7 @@ pub number-at : (width at : ℕ) (t : List ℕ) → at + width ≤ length t → 
 unfolding numberAt within
 number-at width at t h = simp (le-leb (at + width) (length t) h)
 
-realm-at : (at : ℕ) (t : List ℕ) → at + 16 ≤ length t → realmAt at t ≡ record { hi = number (part at 8 t); lo = number (part (at + 8) 8 t) }
+pub realm-at : (at : ℕ) (t : List ℕ) → at + 16 ≤ length t → realmAt at t ≡ record { hi = number (part at 8 t); lo = number (part (at + 8) 8 t) }
 unfolding realmAt within
 realm-at at t h = simp (le-leb (at + 16) (length t) h)
 

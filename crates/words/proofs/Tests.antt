@@ -1,8 +1,13 @@
 -- Both parts of a test that passed, or failed; the elements that pass a test; what holds of each element. Assumes nothing.
 use mathlib.Core.Path.{_≡_, refl, ap}
-use mathlib.Core.List.{List, [], _∷_, _++_}
+use mathlib.Core.List.{List, [], _∷_, _++_, map}
 use mathlib.Core.Bool.{Bool, true, false, cond, _||_, _&&_}
-use Rattle.words.specs.Test.{those}
+use Prim.Native.Nat.{ℕ}
+use native.Mathlib.Omega.{arith}
+use Rattle.words.specs.Test.{anyOf, those}
+
+pub differ : true ≡ false → ⊥
+differ q = let z : _≡_ {A = ℕ} 0 1 = cc in omega arith
 
 pub and-left : (a b : Bool) → (a && b) ≡ true → a ≡ true
 and-left true b t = refl
@@ -42,3 +47,74 @@ module _ {A : Type 0} (P : A → Type 0) where
       go : (b : Bool) → Each (those test xs) → Each (cond b (x ∷ those test xs) (those test xs))
       go true rest = (e .0, rest)
       go false rest = rest
+
+  pub each-append : (xs ys : List A) → Each xs → Each ys → Each (xs ++ ys)
+  unfolding Each
+  each-append [] ys e f = f
+  each-append (x ∷ xs) ys e f = (e .0, each-append xs ys (e .1) f)
+
+-- what follows for each element, from one property or from two
+pub each-both : {A : Type 0} {P Q R : A → Type 0} → ((x : A) → P x → Q x → R x) → (xs : List A) → Each P xs → Each Q xs → Each R xs
+unfolding Each
+each-both so [] e f = tt
+each-both so (x ∷ xs) e f = (so x (e .0) (f .0), each-both so xs (e .1) (f .1))
+
+pub each-so : {A : Type 0} {P Q : A → Type 0} → ((x : A) → P x → Q x) → (xs : List A) → Each P xs → Each Q xs
+each-so so xs e = each-both (λ x p q. so x p) xs e e
+
+module _ {A : Type 0} (test : A → Bool) where
+  -- all pass, or none does
+  pub those-all : (xs : List A) → Each (λ x. test x ≡ true) xs → those test xs ≡ xs
+  unfolding Each those
+  those-all [] e = refl
+  those-all (x ∷ xs) e = rw (e .0) (ap (λ (zs : List A). x ∷ zs) (those-all xs (e .1)))
+
+  pub those-none : (xs : List A) → Each (λ x. test x ≡ false) xs → those test xs ≡ []
+  unfolding Each those
+  those-none [] e = refl
+  those-none (x ∷ xs) e = rw (e .0) (those-none xs (e .1))
+
+  pub any-none : (xs : List A) → Each (λ x. test x ≡ false) xs → anyOf test xs ≡ false
+  unfolding Each anyOf
+  any-none [] e = refl
+  any-none (x ∷ xs) e = rw (e .0) (any-none xs (e .1))
+
+  pub none-any : (xs : List A) → anyOf test xs ≡ false → Each (λ x. test x ≡ false) xs
+  unfolding Each anyOf
+  none-any [] e = tt
+  none-any (x ∷ xs) e = go (none-any xs) (test x) refl e
+    where
+      go : (anyOf test xs ≡ false → Each (λ x. test x ≡ false) xs) → (b : Bool) → test x ≡ b → cond b true (anyOf test xs) ≡ false
+          → (test x ≡ false) × Each (λ x. test x ≡ false) xs
+      go later true q e = absurd (differ e)
+      go later false q e = (q, later e)
+
+  pub any-append : (xs ys : List A) → anyOf test (xs ++ ys) ≡ (anyOf test xs || anyOf test ys)
+  unfolding anyOf
+  any-append [] ys = refl
+  any-append (x ∷ xs) ys = go (test x) (any-append xs ys)
+    where
+      go : (b : Bool) → anyOf test (xs ++ ys) ≡ (anyOf test xs || anyOf test ys)
+          → cond b true (anyOf test (xs ++ ys)) ≡ (cond b true (anyOf test xs) || anyOf test ys)
+      go true ih = refl
+      go false ih = ih
+
+  pub those-pass : (xs : List A) → Each (λ x. test x ≡ true) (those test xs)
+  unfolding Each those
+  those-pass [] = tt
+  those-pass (x ∷ xs) = go (test x) refl (those-pass xs)
+    where
+      go : (b : Bool) → test x ≡ b → Each (λ x. test x ≡ true) (those test xs) → Each (λ x. test x ≡ true) (cond b (x ∷ those test xs) (those test xs))
+      go true q rest = (q, rest)
+      go false q rest = rest
+
+-- two tests that agree on each element
+pub any-alike : {A : Type 0} (f g : A → Bool) (xs : List A) → Each (λ x. f x ≡ g x) xs → anyOf f xs ≡ anyOf g xs
+unfolding Each anyOf
+any-alike f g [] e = refl
+any-alike f g (x ∷ xs) e = rw (e .0, any-alike f g xs (e .1)) refl
+
+pub any-map : {A B : Type 0} (test : B → Bool) (f : A → B) (xs : List A) → anyOf test (map f xs) ≡ anyOf (λ x. test (f x)) xs
+unfolding anyOf
+any-map test f [] = refl
+any-map test f (x ∷ xs) = rw (any-map test f xs) refl

@@ -3,4 +3,5 @@ pub mod Said
 pub mod Lines
 pub mod Bit
 pub mod Number
+pub mod Writing
 pub mod Realm

@@ -1,10 +1,11 @@
 -- Realms: sixteen bytes, held as two numbers of eight.
 use mathlib.Core.Path.{_≡_}
 use mathlib.Core.Bool.{Bool, cond, _&&_}
-use mathlib.Core.List.{List}
+use mathlib.Core.List.{List, _++_}
 use Prim.Native.Nat.{ℕ, _+_}
 use lib.Dec.{eqb}
 use Rattle.words.specs.Number.{number, part, within, less}
+use Rattle.words.specs.Writing.{digits, written}
 use Rattle.words.specs.declared.realm.Realm.{Realm}
 
 -- sixteen zeroes: what stands for the realm where there is none
@@ -22,6 +23,10 @@ realmAt at bytes =
     (record { hi = number (part at 8 bytes); lo = number (part (at + 8) 8 bytes) })
     zeroRealm
 
+-- its sixteen bytes
+unfoldable pub realmBytes : Realm → List ℕ
+realmBytes realm = digits 8 (realm .hi) ++ digits 8 (realm .lo)
+
 unfoldable pub sameRealm : Realm → Realm → Bool
 sameRealm a b = eqb (a .hi) (b .hi) && eqb (a .lo) (b .lo)
 
@@ -32,6 +37,10 @@ lessRealm a b lower = less (a .hi) (b .hi) (less (a .lo) (b .lo) lower)
 -- reading a realm
 pub record ReadsRealm (bytes : List ℕ) (at : ℕ) (r : Realm) : Type 0 where
   pub answer : r ≡ realmAt at bytes
+
+-- writing a realm
+pub record WritesRealm (realm : Realm) (bytes : List ℕ) (at : ℕ) (after : List ℕ) : Type 0 where
+  pub bytes-after : after ≡ written at (realmBytes realm) bytes
 
 -- telling whether two realms are the same
 pub record TellsRealms (a b : Realm) (r : Bool) : Type 0 where

@@ -6,8 +6,8 @@ pub in-order-spec : {M : Type 1} → statement M
 in-order-spec =
     tie.close
     (tie.spec
-    (λ c. by-kind _ _ (c .before .before .if1 .taken))
-    (λ c. second _ _ (c .before .before .if1 .left) (c .if2 .taken))
-    (λ c. by-hi _ _ (c .before .before .before .before .before .before .before .before .before .if1 .left) (c .before .before .before .before .before .before .before .if2 .left) (c .before .before .if3 .taken))
-    (λ c. by-lo _ _ (c .before .before .before .before .before .before .before .before .before .before .before .before .if1 .left) (c .before .before .before .before .before .before .before .before .before .before .if2 .left) (c .before .before .before .before .before .if3 .left) (c .before .before .if4 .taken))
-    (λ c. by-id _ _ (c .before .before .before .before .before .before .before .before .before .before .before .before .if1 .left) (c .before .before .before .before .before .before .before .before .before .before .if2 .left) (c .before .before .before .before .before .if3 .left) (c .before .before .if4 .left)))
+    (λ c. record { answer = by-kind _ _ (c .before .before .if1 .taken) })
+    (λ c. record { answer = second _ _ (c .before .before .if1 .left) (c .if2 .taken) })
+    (λ c. record { answer = by-hi _ _ (c .before .before .before .before .before .before .before .before .before .if1 .left) (c .before .before .before .before .before .before .before .if2 .left) (c .before .before .if3 .taken) })
+    (λ c. record { answer = by-lo _ _ (c .before .before .before .before .before .before .before .before .before .before .before .before .if1 .left) (c .before .before .before .before .before .before .before .before .before .before .if2 .left) (c .before .before .before .before .before .if3 .left) (c .before .before .if4 .taken) })
+    (λ c. record { answer = by-id _ _ (c .before .before .before .before .before .before .before .before .before .before .before .before .if1 .left) (c .before .before .before .before .before .before .before .before .before .before .if2 .left) (c .before .before .before .before .before .if3 .left) (c .before .before .if4 .left) }))

@@ -10,8 +10,8 @@ is-forbidden-spec =
     tie.close
     (tie.spec
     (λ c κs. search needs)
-    (λ c. simp (← c .before .is-unknown .ensures .answer, c .if1 .taken))
+    (λ c. record { answer = simp (← c .before .is-unknown .ensures .answer, c .if1 .taken) })
     (λ c κs. search needs)
-    (λ c. simp (← c .before .before .before .is-unknown .ensures .answer, c .before .before .if1 .left, ← c .before .is-foreign .ensures, not-true (c .before .is-foreign .result) (c .if2 .taken)))
+    (λ c. record { answer = simp (← c .before .before .before .is-unknown .ensures .answer, c .before .before .if1 .left, ← c .before .is-foreign .ensures, not-true (c .before .is-foreign .result) (c .if2 .taken)) })
     (λ c κs. search needs)
-    (λ c. simp (← c .before .before .before .before .is-unknown .ensures .answer, c .before .before .before .if1 .left, ← c .before .before .is-foreign .ensures, not-false (c .before .before .is-foreign .result) (c .before .if2 .left), ← c .same-realm .ensures .answer)))
+    (λ c. record { answer = simp (← c .before .before .before .before .is-unknown .ensures .answer, c .before .before .before .if1 .left, ← c .before .before .is-foreign .ensures, not-false (c .before .before .is-foreign .result) (c .before .if2 .left), ← c .same-realm .ensures .answer) }))

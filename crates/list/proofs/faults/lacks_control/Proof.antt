@@ -8,4 +8,4 @@ unfolding lacksControl
 lacks-control-spec =
     tie.close
     (tie.spec
-    (λ c. refl))
+    (λ c. record { answer = refl }))

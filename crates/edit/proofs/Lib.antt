@@ -1,0 +1,12 @@
+pub mod Spelled
+pub mod Cuts
+pub mod Sorted
+pub mod Heads
+pub mod Spots
+pub mod Lengths
+pub mod Pieces
+pub mod Splits
+pub mod Faultless
+pub mod Endings
+pub mod Verdicts
+pub mod Outcomes

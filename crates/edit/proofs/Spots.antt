@@ -1,0 +1,238 @@
+-- The search for an entry's record: it starts after the default realm, goes on past the records that come before, and stops. Assumes
+-- nothing.
+use mathlib.Core.Path.{_≡_, refl, sym, _∙_, ap, subst}
+use mathlib.Core.List.{List, [], _∷_, _++_, append-assoc, append-nil}
+use mathlib.Core.Bool.{Bool, true, false, cond, not}
+use Prim.Native.Nat.{ℕ, _+_, _≤_, _<_}
+use native.Mathlib.Nat.{add-zero}
+use native.Mathlib.Omega.{arith}
+use borrow.Author.Tests.{lt-ltb}
+use lib.Dec.{ltb}
+use lib.ListN.{length, getD, take, drop, length-append, length-drop, drop-of-length-le}
+use lib.Seq.{drop-drop, take-add, take-at, drop-at, take-all}
+use Rattle.words.specs.Test.{if_then_else_, anyOf, those}
+use Rattle.words.specs.Said.{done}
+use Rattle.words.specs.Number.{Bytes}
+use Rattle.words.specs.Realm.{realmAt}
+use Rattle.words.proofs.Tests.{Each}
+use Rattle.list.specs.Kind.{bodies, body, bodyOf, bodyLength, size}
+use Rattle.list.specs.Reading.{recordOf, readOf}
+use Rattle.list.specs.Fault.{rises}
+use Rattle.list.specs.Checking.{checkSays}
+use Rattle.list.specs.declared.records.Record.{Record}
+use Rattle.list.specs.declared.records.Read.the-variants.{Whole}
+use Rattle.list.proofs.Tails.{is}
+use Rattle.list.proofs.Ordered.{rises-asym}
+use Rattle.edit.specs.Entry.{isEntry}
+use Rattle.edit.specs.Spelling.{spelled, spell}
+use Rattle.edit.specs.Editing.{recordsIn, sameEntry}
+use Rattle.edit.specs.Spot.{Finds}
+use Rattle.edit.specs.declared.spot.Spot.{Spot}
+use Rattle.edit.proofs.Spelled.{Fitting, spelled-length, read-back}
+use Rattle.edit.proofs.Cuts.{spelled-size, sized-some, spelled-whole}
+use Rattle.edit.proofs.Sorted.{InOrder, before-differs, none-before, rest-after, there}
+use Rattle.edit.proofs.Heads.{Headed, headed, entries}
+
+-- the search has come to a place: what is left of the records says the rest
+pub record Reached (list : List ℕ) (r : Record) (at : ℕ) : Type 0 where
+  pub last : Record
+  pub rest : List Record
+  pub inside : at ≤ length list
+  pub tail : drop at list ≡ spell rest
+  pub fit : Each Fitting rest
+  pub entry : Each (λ q. isEntry (q .kind) ≡ true) rest
+  pub order : InOrder (realmAt 1 list) last rest
+  pub earlier : take at list ++ spell (those (λ q. rises q r) rest) ≡ spell (those (λ q. rises q r) (recordsIn list))
+  pub later : those (λ q. rises r q) rest ≡ those (λ q. rises r q) (recordsIn list)
+  pub same : anyOf (sameEntry r) rest ≡ anyOf (sameEntry r) (recordsIn list)
+
+-- one record that comes before
+module _ (r q : Record) (qs : List Record) (p : rises q r ≡ true) where
+  pub before-cons : those (λ x. rises x r) (q ∷ qs) ≡ q ∷ those (λ x. rises x r) qs
+  unfolding those
+  before-cons = rw p refl
+
+  after-cons : those (λ x. rises r x) (q ∷ qs) ≡ those (λ x. rises r x) qs
+  unfolding those
+  after-cons = rw (rises-asym q r p) refl
+
+  same-cons : anyOf (sameEntry r) (q ∷ qs) ≡ anyOf (sameEntry r) qs
+  unfolding anyOf
+  same-cons = rw (before-differs r q p) refl
+
+-- a record at a place, and what is behind it
+module _ (list : List ℕ) (at : ℕ) (q : Record) (qs : List Record) (tail : drop at list ≡ spelled q ++ spell qs) (f : Fitting q) where
+  past-drop : drop (at + q .size) list ≡ spell qs
+  past-drop = sym (drop-drop (q .size) at list) ∙ ap (drop (q .size)) tail ∙ drop-at (spelled q) (spell qs) (q .size) (spelled-size q f)
+
+  past-take : take (at + q .size) list ≡ take at list ++ spelled q
+  past-take =
+      take-add at (q .size) list
+      ∙ ap (λ (xs : List ℕ). take at list ++ xs) (ap (take (q .size)) tail ∙ take-at (spelled q) (spell qs) (q .size) (spelled-size q f))
+
+  past-inside : at + q .size ≤ length list
+  past-inside =
+      omega (arith, ap length tail, length-drop at list, length-append (spelled q) (spell qs), spelled-size q f, sized-some q f)
+
+  past-earlier : (r : Record) → rises q r ≡ true
+      → take (at + q .size) list ++ spell (those (λ x. rises x r) qs) ≡ take at list ++ spell (those (λ x. rises x r) (q ∷ qs))
+  unfolding spell
+  past-earlier r p =
+      rw (past-take, before-cons r q qs p) (append-assoc (take at list) (spelled q) (spell (those (λ x. rises x r) qs)))
+
+-- an entry comes after the default realm
+pub first-before : (h r : Record) → h .kind ≡ 1 → 1 < r .kind → rises h r ≡ true
+unfolding rises
+first-before h r k l = rw (k, lt-ltb 1 (r .kind) l) refl
+
+first-size : (h : Record) → Fitting h → h .kind ≡ 1 → 0 + h .size ≡ 17
+unfolding size bodyLength bodyOf bodies body
+first-size h f k = let s : h .size ≡ 17 = f .sized ∙ rw k refl in omega arith
+
+-- the search starts after the record of the default realm
+pub starts : (list : List ℕ) (r : Record) → Bytes list → checkSays list ≡ done [] → 1 < r .kind → Reached list r 17
+unfolding spell
+starts list r bytes passing l =
+    let head = headed list bytes passing in
+    let h = head .first in
+    let p = first-before h r (head .kind) l in
+    let whole : drop 0 list ≡ spelled h ++ spell (head .rest) = sym (spelled-whole list bytes passing) ∙ ap spell (head .all) in
+    subst (Reached list r) (first-size h (head .fits) (head .kind))
+    (record {
+      last = h;
+      rest = head .rest;
+      inside = past-inside list 0 h (head .rest) whole (head .fits);
+      tail = past-drop list 0 h (head .rest) whole (head .fits);
+      fit = head .fit;
+      entry = entries list head;
+      order = head .order;
+      earlier = past-earlier list 0 h (head .rest) whole (head .fits) r p ∙ ap (λ (rs : List Record). spell (those (λ q. rises q r) rs)) (sym (head .all));
+      later = sym (ap (those (λ q. rises r q)) (head .all) ∙ after-cons r h (head .rest) p);
+      same = sym (ap (anyOf (sameEntry r)) (head .all) ∙ same-cons r h (head .rest) p);
+    })
+
+-- the spot at which a search stops
+unfoldable pub spotted : ℕ → ℕ → Spot
+spotted at size = record { at = at; size = size }
+
+module _ {list : List ℕ} {r : Record} {at : ℕ} (reached : Reached list r at) where
+  -- at the end the record is not there
+  pub ends : length list ≤ at → Finds list r (spotted at 0)
+  unfolding spotted spell those anyOf Each
+  ends h = go (reached .rest) (reached .tail) (reached .fit) (reached .earlier) (reached .later) (reached .same)
+    where
+      go : (rs : List Record) → drop at list ≡ spell rs → Each Fitting rs
+          → take at list ++ spell (those (λ q. rises q r) rs) ≡ spell (those (λ q. rises q r) (recordsIn list))
+          → those (λ q. rises r q) rs ≡ those (λ q. rises r q) (recordsIn list) → anyOf (sameEntry r) rs ≡ anyOf (sameEntry r) (recordsIn list)
+          → Finds list r (spotted at 0)
+      go [] t f e l s = record {
+        earlier = sym (append-nil (take at list)) ∙ e;
+        later = ap (λ (n : ℕ). drop n list) (add-zero at) ∙ t ∙ ap spell l;
+        there = s;
+        inside = omega (arith, reached .inside);
+      }
+      go (x ∷ xs) t f e l s =
+          absurd (omega (arith, ap length t, length-drop at list, length-append (spelled x) (spell xs), spelled-size x (f .0), sized-some x (f .0)))
+
+  -- before the end a record stands
+  module _ (before : at < length list) where
+    pub record Meets : Type 0 where
+      pub it : Record
+      pub others : List Record
+      pub is-rest : reached .rest ≡ it ∷ others
+
+    pub meets : Meets
+    unfolding spell
+    meets = go (reached .rest) refl
+      where
+        go : (rs : List Record) → reached .rest ≡ rs → Meets
+        go [] q =
+            let e : length (drop at list) ≡ 0 = ap length (reached .tail ∙ ap spell q) in
+            absurd (omega (arith, length-drop at list))
+        go (x ∷ xs) q = record { it = x; others = xs; is-rest = q }
+
+    it : Record
+    it = meets .it
+
+    others : List Record
+    others = meets .others
+
+    fits : Fitting it × Each Fitting others
+    unfolding Each it others
+    fits = subst (Each Fitting) (meets .is-rest) (reached .fit)
+
+    tail-is : drop at list ≡ spelled it ++ spell others
+    unfolding spell it others
+    tail-is = reached .tail ∙ ap spell (meets .is-rest)
+
+    kind-is : getD (drop at list) 0 0 ≡ it .kind
+    unfolding spelled
+    kind-is = ap (λ (t : List ℕ). getD t 0 0) tail-is
+
+    pub is-entry : isEntry (getD (drop at list) 0 0) ≡ true
+    unfolding Each it others
+    is-entry = rw kind-is (subst (Each (λ q. isEntry (q .kind) ≡ true)) (meets .is-rest) (reached .entry) .0)
+
+    pub enough : size (getD (drop at list) 0 0) ≤ length (drop at list)
+    enough = rw kind-is (omega (arith, ap length tail-is, length-append (spelled it) (spell others), spelled-length it))
+
+    -- the record that is read there
+    module _ {q : Record} (reads : q ≡ recordOf (getD (drop at list) 0 0) (drop at list)) where
+      is-it : q ≡ it
+      is-it =
+          let w = ap readOf tail-is ∙ read-back it (spell others) (fits .0) in
+          reads ∙ is (drop at list) it w .same
+
+      pub goes-on : (0 < q .size) × (at + q .size ≤ length list)
+      goes-on = rw is-it (sized-some it (fits .0), past-inside list at it others tail-is (fits .0))
+
+      pub goes : rises q r ≡ true → Reached list r (at + q .size)
+      unfolding InOrder Each it others
+      goes p =
+          let p′ = rw is-it at p in
+          let all = meets .is-rest in
+          rw is-it
+          (record {
+            last = it;
+            rest = others;
+            inside = past-inside list at it others tail-is (fits .0);
+            tail = past-drop list at it others tail-is (fits .0);
+            fit = fits .1;
+            entry = subst (Each (λ q. isEntry (q .kind) ≡ true)) all (reached .entry) .1;
+            order = subst (InOrder (realmAt 1 list) (reached .last)) all (reached .order) .1;
+            earlier = past-earlier list at it others tail-is (fits .0) r p′ ∙ ap (λ (rs : List Record). take at list ++ spell (those (λ q. rises q r) rs)) (sym all) ∙ reached .earlier;
+            later = sym (after-cons r it others p′) ∙ ap (those (λ q. rises r q)) (sym all) ∙ reached .later;
+            same = sym (same-cons r it others p′) ∙ ap (anyOf (sameEntry r)) (sym all) ∙ reached .same;
+          })
+
+      pub stops : 1 < r .kind → rises q r ≡ false → (s : Spot) → s .at ≡ at → s .size ≡ (if rises r q then 0 else q .size) → Finds list r s
+      unfolding InOrder it others spell
+      stops l p s e n =
+          let all = meets .is-rest in
+          let p′ = rw is-it at p in
+          let order = subst (InOrder (realmAt 1 list) (reached .last)) all (reached .order) .1 in
+          let no-more = ap (those (λ x. rises x r)) all ∙ none-before r l it p′ (realmAt 1 list) others order in
+          let behind = sym (reached .later) ∙ ap (those (λ x. rises r x)) all ∙ rest-after r l it p′ (realmAt 1 list) others order in
+          let told = sym (reached .same) ∙ ap (anyOf (sameEntry r)) all ∙ there r l it p′ (realmAt 1 list) others order in
+          go (rises r it) (n ∙ ap (λ (x : Record). if rises r x then 0 else x .size) is-it) no-more behind told
+        where
+          front : those (λ x. rises x r) (reached .rest) ≡ [] → take (s .at) list ≡ spell (those (λ x. rises x r) (recordsIn list))
+          front z =
+              ap (λ (n : ℕ). take n list) e ∙ sym (append-nil (take at list)) ∙ ap (λ (rs : List Record). take at list ++ spell rs) (sym z)
+              ∙ reached .earlier
+
+          go : (t : Bool) → s .size ≡ (if t then 0 else it .size) → those (λ x. rises x r) (reached .rest) ≡ []
+              → those (λ x. rises r x) (recordsIn list) ≡ (if t then it ∷ others else others) → anyOf (sameEntry r) (recordsIn list) ≡ not t
+              → Finds list r s
+          go true m z b y = record {
+            earlier = front z;
+            later = (λ j. drop (e j + m j) list) ∙ ap (λ (n : ℕ). drop n list) (add-zero at) ∙ tail-is ∙ ap spell (sym b);
+            there = ap (ltb 0) m ∙ sym y;
+            inside = omega (arith, e, m, before);
+          }
+          go false m z b y = record {
+            earlier = front z;
+            later = (λ j. drop (e j + m j) list) ∙ past-drop list at it others tail-is (fits .0) ∙ ap spell (sym b);
+            there = ap (ltb 0) m ∙ lt-ltb 0 (it .size) (sized-some it (fits .0)) ∙ sym y;
+            inside = omega (arith, e, m, past-inside list at it others tail-is (fits .0));
+          }

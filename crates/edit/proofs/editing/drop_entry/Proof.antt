@@ -1,0 +1,16 @@
+use Rattle.edit.proofs.Outcomes.{checked, drop-old}
+use borrow.Author.Needs.{needs}
+use Rattle.edit.proofs.editing.drop_entry.Statement.{statement}
+use Rattle.edit.proofs.editing.drop_entry.Tie as tie
+
+pub drop-entry-spec : {M : Type 1} → statement M
+drop-entry-spec =
+    tie.close
+    (tie.spec
+    (λ c κs. search needs)
+    (λ c. search needs)
+    (λ c. search needs)
+    (λ c κs. checked (c .before .before .before .check-list .ensures) (c .before .enum-told .given .1))
+    (λ c. drop-old (c .before .before .before .check-list .ensures) (c .before .number .given .1))
+    (λ c. search needs)
+    (λ c. search needs))

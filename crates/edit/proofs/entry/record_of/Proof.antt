@@ -1,0 +1,19 @@
+use native.Mathlib.Omega.{arith}
+use Rattle.edit.specs.Entry.{recordFor}
+use Rattle.edit.proofs.Lengths.{size-is}
+use borrow.Author.Needs.{needs}
+use Rattle.edit.proofs.entry.record_of.Statement.{statement}
+use Rattle.edit.proofs.entry.record_of.Tie as tie
+
+pub record-of-spec : {M : Type 1} → statement M
+unfolding recordFor
+record-of-spec =
+    tie.close
+    (tie.spec
+    (λ c κs. search needs)
+    (λ c κs. search needs)
+    (λ c κs. search needs)
+    (λ c κs. search needs)
+    (λ c. search needs)
+    (λ c. search needs)
+    (λ c. let k = c .before .before .before .before .args .entry .kind in record { is-record = simp (c .id-if .ensures, c .before .realm-if .ensures, c .before .before .id-length .ensures .0, c .before .before .before .realm-length .ensures .0, size-is k (c .before .before .before .before .pre)); short = omega arith; hi = omega arith; lo = omega arith; id = omega arith }))

@@ -1,0 +1,12 @@
+use mathlib.Core.Path.{_∙_}
+use Rattle.edit.proofs.Verdicts.{mask-told}
+use borrow.Author.Needs.{needs}
+use Rattle.edit.proofs.spot.has_mask.Statement.{statement}
+use Rattle.edit.proofs.spot.has_mask.Tie as tie
+
+pub has-mask-spec : {M : Type 1} → statement M
+has-mask-spec =
+    tie.close
+    (tie.spec
+    (λ c κs. (c .before .pre, search needs))
+    (λ c. c .before .find .ensures .there ∙ mask-told (c .before .before .before .args .list .now) (λ i. c .before .before .shared-slice-known .given i .fits) (c .before .before .before .pre)))

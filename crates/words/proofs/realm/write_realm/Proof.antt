@@ -1,0 +1,21 @@
+use mathlib.Core.Path.{_∙_}
+use native.Mathlib.Omega.{arith}
+use Rattle.words.specs.Realm.{realmBytes}
+use Rattle.words.proofs.Digits.{fits}
+use Rattle.words.proofs.Written.{realm-length, stored-realm, has-room, has-none}
+use borrow.Author.Needs.{needs}
+use Rattle.words.proofs.realm.write_realm.Statement.{statement}
+use Rattle.words.proofs.realm.write_realm.Tie as tie
+
+pub write-realm-spec : {M : Type 1} → statement M
+write-realm-spec =
+    tie.close
+    (tie.spec
+    (λ c κs. search needs)
+    (λ c κs. let h = fits _ _ _ (c .before .before .holds .ensures) (c .before .if1 .taken) in omega arith)
+    (λ c. let h = fits _ _ _ (c .before .before .before .before .before .before .holds .ensures) (c .before .before .before .before .before .if1 .taken) in omega arith)
+    (λ c κs. let h = fits _ _ _ (c .before .before .before .before .before .before .holds .ensures) (c .before .before .before .before .before .if1 .taken) in omega arith)
+    (λ c. search needs)
+    (λ c. let a = c .before .before .before .before .before .before .before .before .before .before .before .before .args in let h = fits _ _ _ (c .before .before .before .before .before .before .before .before .before .holds .ensures) (c .before .before .before .before .before .before .before .before .if1 .taken) in record { bytes-after = rw (c .before .before .store642 .ensures, c .before .before .before .before .before .before .store64 .ensures) (stored-realm (a .bytes .now) (a .at) (a .realm) h ∙ has-room (a .at) 16 (realmBytes (a .realm)) (a .bytes .now) (realm-length (a .realm)) (c .before .before .before .before .before .before .before .before .before .holds .ensures) (c .before .before .before .before .before .before .before .before .if1 .taken)) })
+    (λ c. search needs)
+    (λ c. let a = c .before .before .before .before .args in record { bytes-after = has-none (a .at) 16 (realmBytes (a .realm)) (a .bytes .now) (realm-length (a .realm)) (c .before .holds .ensures) (c .if1 .left) }))
