@@ -10,3 +10,6 @@ pub mod Faultless
 pub mod Endings
 pub mod Verdicts
 pub mod Outcomes
+pub mod Again
+pub mod Determined
+pub mod Calls

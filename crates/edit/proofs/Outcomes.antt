@@ -15,7 +15,7 @@ use Rattle.words.specs.Said.{Said, done, refused, andThen}
 use Rattle.words.specs.Number.{Bytes}
 use Rattle.words.specs.Writing.{over}
 use Rattle.words.specs.Realm.{zeroRealm, realmAt}
-use Rattle.words.proofs.Written.{FitsRealm, over-none, over-next}
+use Rattle.words.proofs.Written.{FitsRealm, over-none, over-start, over-next}
 use Rattle.list.specs.Kind.{bodyOf, size}
 use Rattle.list.specs.Fault.{noRecord}
 use Rattle.list.specs.Checking.{checkSays}
@@ -23,7 +23,7 @@ use Rattle.list.specs.declared.records.Record.{Record}
 use Rattle.evaluate.specs.Evaluation.{verdictSays, Checks}
 use Rattle.evaluate.specs.declared.verdict.Verdict.{Verdict}
 use Rattle.evaluate.specs.declared.verdict.Verdict.the-variants.{Fine, Refused as Faulty}
-use Rattle.edit.specs.Entry.{isEntry, recordFor}
+use Rattle.edit.specs.Entry.{InWidth, isEntry, recordFor}
 use Rattle.edit.specs.Spelling.{spelled, spell}
 use Rattle.edit.specs.Editing.{recordsIn, sameEntry, putIn, dropFrom, putting, dropping, hasEntry, roomSays, newSays, putSays, dropSays, left, editedSays, Puts, Drops}
 use Rattle.edit.specs.Spot.{Says, Finds, putVerdict, dropVerdict, splice, Writes}
@@ -45,7 +45,7 @@ module _ (new out : List ℕ) (n : ℕ) (l : length new ≡ n) where
 
   pub room : {after : List ℕ} → n ≤ length out → after ≡ over 0 new out → Writes new out (Length n) after
   unfolding roomSays left editedSays
-  room h q = record { answer = rw (l, le-ltb (length out) n h) refl; out-after = rw (l, le-ltb (length out) n h) q }
+  room h q = record { answer = rw (l, le-ltb (length out) n h) refl; out-after = rw (l, le-ltb (length out) n h) (q ∙ over-start new out) }
 
 -- a list with a piece in place of the record at a spot
 module _ (list : List ℕ) (s : Spot) (inside : s .at + s .size ≤ length list) where
@@ -86,9 +86,9 @@ module _ (list : List ℕ) (s : Spot) (inside : s .at + s .size ≤ length list)
       ∙ piecewise [] out 0 n refl (omega arith) h
 
 -- the record of an entry fits
-pub entry-fits : (entry : Entry) (r : Record) → isEntry (entry .kind) ≡ true → Says entry r → Fitting (recordFor entry)
+pub entry-fits : (entry : Entry) → isEntry (entry .kind) ≡ true → InWidth entry → Fitting (recordFor entry)
 unfolding recordFor zeroRealm
-entry-fits entry r is-entry says = record {
+entry-fits entry is-entry numbers = record {
   known = is-known (entry .kind) is-entry;
   sized = refl;
   no-realm = λ q. rw q refl;
@@ -100,11 +100,11 @@ entry-fits entry r is-entry says = record {
   where
     realm-part : (b : Bool) → FitsRealm (if b then zeroRealm else entry .realm)
     realm-part true = record { hi = omega arith; lo = omega arith }
-    realm-part false = record { hi = says .hi; lo = says .lo }
+    realm-part false = record { hi = numbers .hi; lo = numbers .lo }
 
     id-part : (b : Bool) → (if b then 0 else entry .id) < 256 ^ 4
     id-part true = omega arith
-    id-part false = says .id
+    id-part false = numbers .id
 
 -- an edit of a list that passes, of an entry whose record was found
 pub record Located (list : List ℕ) (entry : Entry) (r : Record) (s : Spot) : Type 0 where
@@ -126,7 +126,7 @@ module _ {list : List ℕ} {entry : Entry} {r : Record} {s : Spot} (located : Lo
   above = rw is-record (is-above (entry .kind) (located .is-entry))
 
   fits-r : Fitting r
-  fits-r = rw is-record (entry-fits entry r (located .is-entry) (located .says))
+  fits-r = rw is-record (entry-fits entry (located .is-entry) (located .says .numbers))
 
   place : s .at ≡ length (spell (earlier r (recordsIn list)))
   place = sym (length-take-le (s .at) list (omega (arith, finds .inside))) ∙ ap length (finds .earlier)

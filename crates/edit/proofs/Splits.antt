@@ -25,6 +25,21 @@ module _ (r : Record) where
   abbrev pub later : List Record → List Record
   later = those (λ q. rises r q)
 
+  -- neither those before nor those after are the same
+  abbrev pub differs : Record → Bool
+  differs q = not (sameEntry r q)
+
+  pub earlier-differ : (rs : List Record) → those differs (earlier rs) ≡ earlier rs
+  earlier-differ rs =
+      those-all differs (earlier rs) (each-so {Q = λ q. differs q ≡ true} (λ q p. ap not (before-differs r q p)) (earlier rs) (those-pass (λ q. rises q r) rs))
+
+  pub later-differ : (rs : List Record) → those differs (later rs) ≡ later rs
+  later-differ rs =
+      those-all differs (later rs) (each-so {Q = λ q. differs q ≡ true} (λ q p. ap not (after-differs r q p)) (later rs) (those-pass (λ q. rises r q) rs))
+
+  same-do-not : (rs : List Record) → those differs (same rs) ≡ []
+  same-do-not rs = those-none differs (same rs) (each-so {Q = λ q. differs q ≡ false} (λ q p. ap not p) (same rs) (those-pass (sameEntry r) rs))
+
   goes-before : (q : Record) (qs : List Record) → rises q r ≡ true → qs ≡ earlier qs ++ (same qs ++ later qs)
       → q ∷ qs ≡ earlier (q ∷ qs) ++ (same (q ∷ qs) ++ later (q ∷ qs))
   unfolding those
@@ -55,13 +70,9 @@ module _ (r : Record) where
     pub dropped : (home : Realm) (e : Record) (rs : List Record) → InOrder home e rs → dropFrom r rs ≡ earlier rs ++ later rs
     unfolding dropFrom
     dropped home e rs o =
-        let differs : Record → Bool = λ q. not (sameEntry r q) in
-        let a = those-all differs (earlier rs) (each-so {Q = λ q. differs q ≡ true} (λ q p. ap not (before-differs r q p)) (earlier rs) (those-pass (λ q. rises q r) rs)) in
-        let b = those-none differs (same rs) (each-so {Q = λ q. differs q ≡ false} (λ q p. ap not p) (same rs) (those-pass (sameEntry r) rs)) in
-        let c = those-all differs (later rs) (each-so {Q = λ q. differs q ≡ true} (λ q p. ap not (after-differs r q p)) (later rs) (those-pass (λ q. rises r q) rs)) in
         ap (those differs) (split home e rs o)
         ∙ those-append differs (earlier rs) (same rs ++ later rs)
-        ∙ rw (a, those-append differs (same rs) (later rs), b, c) refl
+        ∙ rw (earlier-differ rs, those-append differs (same rs) (later rs), same-do-not rs, later-differ rs) refl
 
 -- the last of some records, after another
 unfoldable pub lastOf : Record → List Record → Record

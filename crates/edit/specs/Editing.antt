@@ -4,10 +4,9 @@ use mathlib.Core.List.{List, [], _∷_, _++_, map}
 use mathlib.Core.Bool.{Bool, not, _&&_}
 use Prim.Native.Nat.{ℕ}
 use lib.Dec.{eqb, ltb}
-use lib.ListN.{length}
+use lib.ListN.{length, drop}
 use Rattle.words.specs.Test.{if_then_else_, anyOf, those}
 use Rattle.words.specs.Said.{Said, done, refused, andThen}
-use Rattle.words.specs.Writing.{over}
 use Rattle.words.specs.Realm.{sameRealm}
 use Rattle.list.specs.Fault.{rises}
 use Rattle.list.specs.Checking.{records, checkSays}
@@ -72,7 +71,7 @@ module _ (list : List ℕ) (entry : Entry) (out : List ℕ) where
 
 -- the second buffer after an edit that says so: the new list, bytes past it stay; on refusal as it was
 unfoldable pub left : Said → List ℕ → List ℕ → List ℕ
-left (done values) new out = over 0 new out
+left (done values) new out = new ++ drop (length new) out
 left (refused number values) new out = out
 
 -- what each answer says by 01's numbers

@@ -3,7 +3,7 @@
 use mathlib.Core.Path.{_≡_}
 use mathlib.Core.List.{List, [], _∷_, _++_}
 use mathlib.Core.Bool.{Bool, not, _&&_}
-use Prim.Native.Nat.{ℕ, _+_, _^_, _≤_, _<_}
+use Prim.Native.Nat.{ℕ, _+_, _≤_}
 use lib.Dec.{eqb, leb, ltb}
 use lib.ListN.{length, take, drop}
 use Rattle.words.specs.Test.{if_then_else_, anyOf, those}
@@ -13,20 +13,18 @@ use Rattle.list.specs.Kind.{wantsMask}
 use Rattle.list.specs.Fault.{rises, isForbidden, lacksControl}
 use Rattle.list.specs.Checking.{records, has}
 use Rattle.list.specs.declared.records.Record.{Record}
-use Rattle.edit.specs.Entry.{recordFor}
+use Rattle.edit.specs.Entry.{InWidth, recordFor}
 use Rattle.edit.specs.Spelling.{spell}
 use Rattle.edit.specs.Editing.{recordsIn, sameEntry, roomSays, left, editedSays}
 use Rattle.edit.specs.declared.entry.Entry.{Entry}
 use Rattle.edit.specs.declared.editing.Edited.{Edited}
 use Rattle.edit.specs.declared.spot.Spot.{Spot}
 
--- the record that an entry says, and what an entry's numbers are below
+-- the record that an entry says
 pub record Says (entry : Entry) (r : Record) : Type 0 where
   pub is-record : r ≡ recordFor entry
   pub short : r .size ≤ 22
-  pub hi : entry .realm .hi < 256 ^ 8
-  pub lo : entry .realm .lo < 256 ^ 8
-  pub id : entry .id < 256 ^ 4
+  pub numbers : InWidth entry
 
 -- what stands before a record's spot, what after it, and whether the record is there
 pub record Finds (list : List ℕ) (r : Record) (s : Spot) : Type 0 where

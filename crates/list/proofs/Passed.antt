@@ -113,6 +113,28 @@ passes list = go (ltb 4096 (length list)) (begins list) (faultsAfter (realmAt 1 
     }
     go false true (refused number values) h k p q = let z : _≡_ {A = ℕ} 0 1 = cc in absurd (omega arith)
 
+-- a check that is done answers nothing
+end-alone : (said : Said) (place number : ℕ) (v : List ℕ) → andThen said (refusedAt place number) ≡ done v → andThen said (refusedAt place number) ≡ done []
+unfolding andThen refusedAt
+end-alone (refused n values) place number v q = let z : _≡_ {A = ℕ} 0 1 = cc in absurd (omega arith)
+end-alone (done values) place number v q = go (eqb number 0) q
+  where
+    go : (b : Bool) → (if b then done [] else refused number (place ∷ [])) ≡ done v → (if b then done [] else refused number (place ∷ [])) ≡ done []
+    go true q = refl
+    go false q = let z : _≡_ {A = ℕ} 0 1 = cc in absurd (omega arith)
+
+pub no-values : (list v : List ℕ) → checkSays list ≡ done v → checkSays list ≡ done []
+unfolding checkSays
+no-values list v =
+    go (ltb 4096 (length list)) (begins list) (andThen (faultsAfter (realmAt 1 list) noRecord (cut list)) (refusedAt (length list) (endFault (seenIn (records list)))))
+    (end-alone (faultsAfter (realmAt 1 list) noRecord (cut list)) (length list) (endFault (seenIn (records list))) v)
+  where
+    go : (a b : Bool) (rest : Said) → (rest ≡ done v → rest ≡ done []) → (if a then refused 10 (0 ∷ []) else if not b then refused 11 (0 ∷ []) else rest) ≡ done v
+        → (if a then refused 10 (0 ∷ []) else if not b then refused 11 (0 ∷ []) else rest) ≡ done []
+    go true b rest ends q = let z : _≡_ {A = ℕ} 0 1 = cc in absurd (omega arith)
+    go false false rest ends q = let z : _≡_ {A = ℕ} 0 1 = cc in absurd (omega arith)
+    go false true rest ends q = ends q
+
 pub all-follow : (list : List ℕ) → checkSays list ≡ done [] → Chain (realmAt 1 list) noRecord (records list)
 unfolding records cut
 all-follow list q = let p = passes list q in chained (realmAt 1 list) noRecord (length list) 0 list (p .values) (p .faultless)

@@ -12,10 +12,19 @@ pub(crate) fn caller(hi: u64, lo: u64, user: u32, group: u32) -> Caller {
     }
 }
 
-// Of the realm that is sixteen times one byte.
+// The realm that is sixteen times one byte.
+pub(crate) fn realm_of(byte: u8) -> Realm {
+    let half = byte as u64 * 0x0101_0101_0101_0101;
+    Realm { hi: half, lo: half }
+}
+
+// Of such a realm.
 pub(crate) fn of(realm: u8, user: u32, group: u32) -> Caller {
-    let half = realm as u64 * 0x0101_0101_0101_0101;
-    caller(half, half, user, group)
+    Caller {
+        realm: realm_of(realm),
+        user: user,
+        group: group,
+    }
 }
 
 pub(crate) fn unauthenticated() -> Caller {

@@ -257,9 +257,14 @@ fn with_users(list: [u8; 8192]) -> [u8; 8192] {
     next
 }
 
-// 10. Header, objects, any_other and 678 users are 4,095 bytes, the longest list there is; more bytes of kind 7 follow.
+// Header, objects, any_other and 678 users are 4,095 bytes, the longest list there is; more bytes of kind 7 follow.
+pub(crate) fn longest() -> [u8; 8192] {
+    with_users(with_head([7u8; 8192]))
+}
+
+// 10.
 pub(crate) fn lengths() {
-    let list = with_users(with_head([7u8; 8192]));
+    let list = longest();
     check_first(b"4,095 bytes", &list, 4095);
     check_first(b"4,094 bytes", &list, 4094);
     check_first(b"4,096 bytes", &list, 4096);

@@ -1,7 +1,10 @@
 // The sample day and our own cases: a line for each, held against the stored output.
 mod callers;
 mod draft;
+mod edited;
+mod edits;
 mod lists;
+mod refused_edits;
 mod rights_by_list;
 mod rights_by_mode;
 mod say;
@@ -29,4 +32,6 @@ fn main() {
     lists::lengths();
     rights_by_list::ours();
     rights_by_mode::ours();
+    edits::ours();
+    refused_edits::ours();
 }

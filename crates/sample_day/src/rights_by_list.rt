@@ -28,7 +28,7 @@ fn case(name: &[u8], list: Draft, who: Caller) {
 }
 
 // A user of a realm and its group.
-fn user(name: &[u8], list: Draft, realm: u8, id: u32, group: u32) {
+pub(crate) fn user(name: &[u8], list: Draft, realm: u8, id: u32, group: u32) {
     case(name, list, of(realm, id, group));
 }
 

@@ -18,12 +18,12 @@ pub(crate) fn number(n: u64) {
     io::print_decimal(STDOUT_FILENO, n);
 }
 
-fn counted(words: &[u8], n: u64) {
+pub(crate) fn counted(words: &[u8], n: u64) {
     text(words);
     number(n);
 }
 
-fn refused(refusal: u8, place: usize) {
+pub(crate) fn refused(refusal: u8, place: usize) {
     counted(b"refused ", refusal as u64);
     counted(b" at ", place as u64);
 }
@@ -75,7 +75,7 @@ pub(crate) fn found(name: &[u8], f: Found) {
 }
 
 // The first n bytes, or as many as there are.
-fn first<'a>(list: &'a [u8], n: usize) -> &'a [u8] {
+pub(crate) fn first<'a>(list: &'a [u8], n: usize) -> &'a [u8] {
     if list.len() < n {
         return list;
     }

@@ -3,7 +3,7 @@ use mathlib.Core.Path.{_≡_, refl, sym, _∙_, ap}
 use mathlib.Core.List.{List, [], _∷_, _++_, append-assoc, append-nil}
 use mathlib.Core.Bool.{Bool, true, false}
 use Prim.Native.Nat.{ℕ, zero, suc, _+_, _*_, _/_, _%_, _^_, _≤_, _<_}
-use native.Mathlib.Nat.{add-zero, pow-suc}
+use native.Mathlib.Nat.{add-zero, zero-add, pow-suc}
 use native.Mathlib.Numerals.{add-one}
 use native.Mathlib.Omega.{arith}
 use borrow.Author.Tests.{le-leb}
@@ -73,10 +73,15 @@ over-next at n xs ys bytes e h =
     in
     rw (take-at p r (at + n) l, d, append-assoc (take at bytes) xs ys)
 
--- nothing written, and one byte
+-- nothing written, one byte
 pub over-none : (at : ℕ) (bytes : List ℕ) → over at [] bytes ≡ bytes
 unfolding over
 over-none at bytes = rw (add-zero at, append-nil (take at bytes)) (take-append-drop at bytes)
+
+-- from the first byte on
+pub over-start : (piece bytes : List ℕ) → over 0 piece bytes ≡ piece ++ drop (length piece) bytes
+unfolding over
+over-start piece bytes = rw (zero-add (length piece)) refl
 
 pub set-over : (bytes : List ℕ) (at b : ℕ) → at < length bytes → set bytes at b ≡ over at (b ∷ []) bytes
 unfolding over

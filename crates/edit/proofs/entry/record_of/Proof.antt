@@ -16,4 +16,4 @@ record-of-spec =
     (λ c κs. search needs)
     (λ c. search needs)
     (λ c. search needs)
-    (λ c. let k = c .before .before .before .before .args .entry .kind in record { is-record = simp (c .id-if .ensures, c .before .realm-if .ensures, c .before .before .id-length .ensures .0, c .before .before .before .realm-length .ensures .0, size-is k (c .before .before .before .before .pre)); short = omega arith; hi = omega arith; lo = omega arith; id = omega arith }))
+    (λ c. let k = c .before .before .before .before .args .entry .kind in record { is-record = simp (c .id-if .ensures, c .before .realm-if .ensures, c .before .before .id-length .ensures .0, c .before .before .before .realm-length .ensures .0, size-is k (c .before .before .before .before .pre)); short = omega arith; numbers = record { hi = omega arith; lo = omega arith; id = omega arith } }))
