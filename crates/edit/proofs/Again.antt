@@ -3,12 +3,9 @@ use mathlib.Core.Path.{_≡_, refl, sym, _∙_, ap}
 use mathlib.Core.List.{List, [], _∷_, _++_, append-nil}
 use mathlib.Core.Bool.{Bool, true, false, not, or-true}
 use Prim.Native.Nat.{ℕ, _<_}
-use lib.ListN.{length, take}
-use lib.Seq.{take-at}
 use Rattle.words.specs.Test.{anyOf, those}
-use Rattle.words.specs.Said.{Said, done, refused, andThen}
+use Rattle.words.specs.Said.{done}
 use Rattle.words.specs.Number.{Bytes}
-use Rattle.words.specs.Writing.{over}
 use Rattle.words.specs.Realm.{realmAt}
 use Rattle.words.proofs.Tests.{Each, each-so, those-append, those-all, those-none, those-pass, any-none, none-any, any-append}
 use Rattle.list.specs.Fault.{noRecord, rises}
@@ -17,14 +14,13 @@ use Rattle.list.specs.declared.records.Record.{Record}
 use Rattle.list.proofs.Ordered.{rises-asym, Alike, alike-not}
 use Rattle.edit.specs.Entry.{InWidth, isEntry, recordFor}
 use Rattle.edit.specs.Spelling.{spell}
-use Rattle.edit.specs.Editing.{recordsIn, sameEntry, putIn, dropFrom, putting, dropping, hasEntry, roomSays, newSays, putSays, dropSays, left, editedSays, Puts, Drops}
+use Rattle.edit.specs.Editing.{recordsIn, sameEntry, putIn, dropFrom, putting, dropping, hasEntry}
 use Rattle.edit.specs.declared.entry.Entry.{Entry}
-use Rattle.edit.specs.declared.editing.Edited.the-variants.{Length}
 use Rattle.edit.proofs.Lengths.{is-above}
 use Rattle.edit.proofs.Spelled.{Fitting}
 use Rattle.edit.proofs.Cuts.{read-again, spelled-whole}
 use Rattle.edit.proofs.Sorted.{in-order-all, alike-same}
-use Rattle.edit.proofs.Splits.{earlier, same, later, differs, earlier-differ, later-differ, split, dropped}
+use Rattle.edit.proofs.Splits.{earlier, same, later, put-parts, differs, earlier-differ, later-differ, split, dropped}
 use Rattle.edit.proofs.Verdicts.{fit-put, fit-drop}
 use Rattle.edit.proofs.Outcomes.{entry-fits}
 
@@ -41,8 +37,7 @@ module _ (r : Record) (rs : List Record) where
 
   -- what a test leaves of them, by the three parts
   put-those : (test : Record → Bool) → those test (putIn r rs) ≡ those test (earlier r rs) ++ those test (r ∷ later r rs)
-  unfolding putIn
-  put-those test = those-append test (earlier r rs) (r ∷ later r rs)
+  put-those test = ap (those test) (put-parts r rs) ∙ those-append test (earlier r rs) (r ∷ later r rs)
 
   earlier-put : earlier r (putIn r rs) ≡ earlier r rs
   unfolding those
@@ -58,17 +53,17 @@ module _ (r : Record) (rs : List Record) where
 
   -- putting twice is putting once
   put-again : putIn r (putIn r rs) ≡ putIn r rs
-  unfolding putIn
-  put-again = rw (earlier-put, later-put) refl
+  put-again = put-parts r (putIn r rs) ∙ rw (earlier-put, later-put) (sym (put-parts r rs))
 
   others-put : dropFrom r (putIn r rs) ≡ earlier r rs ++ later r rs
   unfolding dropFrom those
   others-put = put-those (differs r) ∙ rw (earlier-differ r rs, alike-same r r (itself r), later-differ r rs) refl
 
   put-there : anyOf (sameEntry r) (putIn r rs) ≡ true
-  unfolding putIn anyOf
+  unfolding anyOf
   put-there =
-      any-append (sameEntry r) (earlier r rs) (r ∷ later r rs)
+      ap (anyOf (sameEntry r)) (put-parts r rs)
+      ∙ any-append (sameEntry r) (earlier r rs) (r ∷ later r rs)
       ∙ rw (alike-same r r (itself r)) (or-true (anyOf (sameEntry r) (earlier r rs)))
 
   dropped-gone : anyOf (sameEntry r) (dropFrom r rs) ≡ false

@@ -7,10 +7,9 @@ use native.Mathlib.Omega.{arith}
 use borrow.Author.Tests.{eqb-true, eqb-false, leb-true, leb-false, eq-eqb, ne-eqb, le-leb, lt-leb, lt-ltb, le-ltb}
 use lib.Dec.{eqb, leb, ltb}
 use lib.ListN.{length, length-append}
-use Rattle.words.specs.Test.{if_then_else_, anyOf, those}
-use Rattle.words.specs.Realm.{zeroRealm}
+use Rattle.words.specs.Test.{if_then_else_, anyOf}
 use Rattle.words.specs.declared.realm.Realm.{Realm}
-use Rattle.words.proofs.Tests.{differ, and-left, and-right, or-left, Each, each-so, each-both, those-each, those-pass, any-none, none-any, any-append}
+use Rattle.words.proofs.Tests.{differ, Each, each-so, each-both, those-each, those-pass, any-none, none-any, any-append}
 use Rattle.list.specs.Kind.{body, bodies, bodyOf, wantsMask}
 use Rattle.list.specs.Fault.{rises, lacksControl, Seen, endFault}
 use Rattle.list.specs.declared.records.Record.{Record}
@@ -21,7 +20,7 @@ use Rattle.edit.specs.Editing.{sameEntry, putIn, dropFrom}
 use Rattle.edit.proofs.Spelled.{Fitting}
 use Rattle.edit.proofs.Cuts.{spelled-size, sized-some}
 use Rattle.edit.proofs.Sorted.{InOrder, same-alike, alike-back}
-use Rattle.edit.proofs.Splits.{earlier, same, later, split, dropped, spell-append}
+use Rattle.edit.proofs.Splits.{earlier, same, later, put-parts, split, dropped, spell-append}
 
 -- some record is of a kind that passes a test
 abbrev pub ofKind : (ℕ → Bool) → List Record → Bool
@@ -95,9 +94,10 @@ module _ (r : Record) (entry : 1 < r .kind) (home : Realm) (e : Record) (rs : Li
       (each-so {Q = λ q. t (q .kind) ≡ false} (λ q s. ap t (sym (same-alike r q s .kind)) ∙ p) (same r rs) (those-pass (sameEntry r) rs))
 
   pub of-put : (t : ℕ → Bool) → ofKind t (putIn r rs) ≡ (t (r .kind) || ofKind t rs)
-  unfolding putIn anyOf
+  unfolding anyOf
   of-put t =
-      any-append (λ q. t (q .kind)) (earlier r rs) (r ∷ later r rs)
+      ap (ofKind t) (put-parts r rs)
+      ∙ any-append (λ q. t (q .kind)) (earlier r rs) (r ∷ later r rs)
       ∙ go (t (r .kind)) refl
     where
       go : (b : Bool) → t (r .kind) ≡ b → (ofKind t (earlier r rs) || cond b true (ofKind t (later r rs))) ≡ (b || ofKind t rs)
@@ -105,10 +105,11 @@ module _ (r : Record) (entry : 1 < r .kind) (home : Realm) (e : Record) (rs : Li
       go false p = sym (of-parts t ∙ rw (none-of-same t p) refl)
 
   pub powerless-put : anyOf lacksControl rs ≡ false → anyOf lacksControl (putIn r rs) ≡ lacksControl r
-  unfolding putIn anyOf
+  unfolding anyOf
   powerless-put p =
       let f = none-any lacksControl rs p in
-      any-append lacksControl (earlier r rs) (r ∷ later r rs)
+      ap (anyOf lacksControl) (put-parts r rs)
+      ∙ any-append lacksControl (earlier r rs) (r ∷ later r rs)
       ∙ rw (any-none lacksControl (earlier r rs) (those-each (λ q. lacksControl q ≡ false) (λ q. rises q r) rs f), any-none lacksControl (later r rs) (those-each (λ q. lacksControl q ≡ false) (λ q. rises r q) rs f))
       (go (lacksControl r))
     where

@@ -1,27 +1,25 @@
 -- The check over records that are spelled: where they are in order it finds no fault, and with one record more it finds that one's. Assumes
 -- nothing.
-use mathlib.Core.Path.{_≡_, refl, sym, _∙_, ap}
+use mathlib.Core.Path.{_≡_, refl, _∙_, ap}
 use mathlib.Core.List.{List, [], _∷_, _++_}
-use mathlib.Core.Bool.{Bool, true, false, not}
-use Prim.Native.Nat.{ℕ, _+_, _<_}
+use mathlib.Core.Bool.{Bool, true, false}
+use Prim.Native.Nat.{ℕ, _+_}
 use native.Mathlib.Omega.{arith}
 use lib.Dec.{eqb, ltb}
 use lib.ListN.{length, length-append}
 use Rattle.words.specs.Test.{if_then_else_, anyOf}
-use Rattle.words.specs.Said.{Said, done, refused, andThen}
-use Rattle.words.specs.Realm.{realmAt}
+use Rattle.words.specs.Said.{done, refused, andThen}
 use Rattle.words.specs.declared.realm.Realm.{Realm}
 use Rattle.words.proofs.Tests.{Each}
-use Rattle.list.specs.Kind.{wantsMask}
 use Rattle.list.specs.Reading.{whenWhole}
-use Rattle.list.specs.Fault.{begins, noRecord, rises, isForbidden, fault, lacksControl, Seen, endFault}
-use Rattle.list.specs.Checking.{found, cut, Placed, placed, records, refusedAt, passed, faultsAfter, has, seenIn, checkSays}
+use Rattle.list.specs.Fault.{rises, isForbidden, fault}
+use Rattle.list.specs.Checking.{found, placed, records, refusedAt, passed, faultsAfter, has}
 use Rattle.list.specs.declared.records.Record.{Record}
 use Rattle.list.specs.declared.records.Read.the-variants.{Whole}
 use Rattle.list.proofs.Passed.{Sound}
 use Rattle.edit.specs.Spelling.{spelled, spell}
 use Rattle.edit.proofs.Spelled.{Fitting}
-use Rattle.edit.proofs.Cuts.{places, finds, spelled-size, cut-spell, records-spell}
+use Rattle.edit.proofs.Cuts.{places, finds, spelled-size}
 use Rattle.edit.proofs.Sorted.{InOrder}
 use Rattle.edit.proofs.Splits.{lastOf}
 

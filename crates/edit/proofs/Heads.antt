@@ -1,16 +1,14 @@
 -- A list that passes begins with the record of the default realm, and every other record of it is an entry. Assumes nothing.
-use mathlib.Core.Path.{_≡_, refl, sym, _∙_, ap}
+use mathlib.Core.Path.{_≡_, refl, sym, _∙_}
 use mathlib.Core.List.{List, [], _∷_, _++_}
 use mathlib.Core.Bool.{Bool, true, false, not, _||_, _&&_}
-use Prim.Native.Nat.{ℕ, _+_, _≤_, _<_}
-use native.Mathlib.Omega.{arith}
+use Prim.Native.Nat.{ℕ, _≤_, _<_}
 use borrow.Author.Tests.{ltb-true, ltb-false, eqb-true, le-leb}
-use lib.Dec.{eqb, leb, ltb}
-use lib.ListN.{length, getD}
+use lib.Dec.{eqb, ltb}
+use lib.ListN.{getD}
 use Rattle.words.specs.Said.{done}
 use Rattle.words.specs.Number.{Bytes}
 use Rattle.words.specs.Realm.{realmAt, lessRealm}
-use Rattle.words.specs.declared.realm.Realm.{Realm}
 use Rattle.words.proofs.Tests.{differ, Each, each-both}
 use Rattle.list.specs.Kind.{body, bodyLength, isKnown}
 use Rattle.list.specs.Fault.{begins, noRecord, rises}

@@ -1,7 +1,7 @@
 -- The lengths of an entry's parts, by its kind. Assumes nothing.
 use mathlib.Core.Path.{_≡_, refl, sym, _∙_}
 use mathlib.Core.List.{List}
-use mathlib.Core.Bool.{Bool, true, not, _||_, _&&_}
+use mathlib.Core.Bool.{Bool, true, not, _||_}
 use Prim.Native.Nat.{ℕ, _+_, _≤_, _<_}
 use native.Mathlib.Omega.{arith}
 use borrow.Author.Tests.{eqb-true, leb-true, lt-ltb, le-ltb}

@@ -9,7 +9,10 @@ pub mod Splits
 pub mod Faultless
 pub mod Endings
 pub mod Verdicts
+pub mod Judged
 pub mod Outcomes
 pub mod Again
 pub mod Determined
 pub mod Calls
+pub mod Opened
+pub mod Day

@@ -2,13 +2,13 @@
 -- Assumes nothing.
 use mathlib.Core.Path.{_≡_, refl, sym, _∙_, ap}
 use mathlib.Core.List.{List, [], _∷_, _++_, append-assoc}
-use mathlib.Core.Bool.{Bool, true, false, not}
-use Prim.Native.Nat.{ℕ, _+_, _-_, _≤_, _<_, _^_}
+use mathlib.Core.Bool.{Bool, true, false}
+use Prim.Native.Nat.{ℕ, _+_, _≤_, _<_, _^_}
 use native.Mathlib.Nat.{add-zero, zero-add}
 use native.Mathlib.Omega.{arith}
 use borrow.Author.Tests.{eqb-true, lt-ltb, le-ltb}
 use lib.Dec.{eqb, ltb}
-use lib.ListN.{length, take, drop, length-append, length-take, length-drop}
+use lib.ListN.{length, take, drop, length-append, length-drop}
 use lib.Seq.{length-take-le}
 use Rattle.words.specs.Test.{if_then_else_, anyOf}
 use Rattle.words.specs.Said.{Said, done, refused, andThen}
@@ -25,7 +25,7 @@ use Rattle.evaluate.specs.declared.verdict.Verdict.{Verdict}
 use Rattle.evaluate.specs.declared.verdict.Verdict.the-variants.{Fine, Refused as Faulty}
 use Rattle.edit.specs.Entry.{InWidth, isEntry, recordFor}
 use Rattle.edit.specs.Spelling.{spelled, spell}
-use Rattle.edit.specs.Editing.{recordsIn, sameEntry, putIn, dropFrom, putting, dropping, hasEntry, roomSays, newSays, putSays, dropSays, left, editedSays, Puts, Drops}
+use Rattle.edit.specs.Editing.{recordsIn, sameEntry, putting, dropping, hasEntry, roomSays, newSays, putSays, dropSays, left, editedSays, Puts, Drops}
 use Rattle.edit.specs.Spot.{Says, Finds, putVerdict, dropVerdict, splice, Writes}
 use Rattle.edit.specs.declared.entry.Entry.{Entry}
 use Rattle.edit.specs.declared.editing.Edited.{Edited}
@@ -34,7 +34,7 @@ use Rattle.edit.specs.declared.spot.Spot.{Spot}
 use Rattle.edit.proofs.Lengths.{is-above, is-known, rights-is}
 use Rattle.edit.proofs.Spelled.{Fitting, spelled-length}
 use Rattle.edit.proofs.Sorted.{in-order-all}
-use Rattle.edit.proofs.Splits.{earlier, later, dropped, spell-append}
+use Rattle.edit.proofs.Splits.{earlier, later, put-parts, dropped, spell-append}
 use Rattle.edit.proofs.Verdicts.{put-verdict, drop-verdict}
 
 -- room for the new list, or none
@@ -132,9 +132,9 @@ module _ {list : List ℕ} {entry : Entry} {r : Record} {s : Spot} (located : Lo
   place = sym (length-take-le (s .at) list (omega (arith, finds .inside))) ∙ ap length (finds .earlier)
 
   pub put-bytes : splice list s (spelled r) ≡ putting list entry
-  unfolding splice putting putIn spell
+  unfolding splice putting spell
   put-bytes =
-      rw (finds .earlier, finds .later, ← is-record)
+      rw (finds .earlier, finds .later, ← is-record, put-parts r (recordsIn list))
       (sym (spell-append (earlier r (recordsIn list)) (r ∷ later r (recordsIn list))))
 
   pub drop-bytes : splice list s [] ≡ dropping list entry

@@ -5,9 +5,8 @@ use mathlib.Core.Bool.{Bool, true, false}
 use Prim.Native.Nat.{ℕ, _+_, _-_, _≤_, _<_}
 use native.Mathlib.Omega.{arith}
 use borrow.Author.Tests.{eq-eqb, ne-eqb}
-use lib.Dec.{eqb}
 use lib.ListN.{length, take, drop, set, length-append, length-drop, drop-of-length-le}
-use lib.Seq.{take-all, take-length, drop-drop, length-take-le}
+use lib.Seq.{take-all, take-length, drop-drop}
 use Rattle.words.specs.Test.{if_then_else_}
 use Rattle.words.specs.Number.{within}
 use Rattle.words.specs.Writing.{digits, over, written}

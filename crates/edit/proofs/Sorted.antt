@@ -1,7 +1,7 @@
 -- Records in their order, and an entry's record among them. Assumes nothing.
-use mathlib.Core.Path.{_≡_, refl, sym, _∙_, ap}
-use mathlib.Core.List.{List, [], _∷_, _++_, map}
-use mathlib.Core.Bool.{Bool, true, false, cond, not, _&&_}
+use mathlib.Core.Path.{_≡_, refl, sym, _∙_}
+use mathlib.Core.List.{List, [], _∷_, map}
+use mathlib.Core.Bool.{Bool, true, false, cond, not}
 use Prim.Native.Nat.{ℕ, _<_}
 use borrow.Author.Tests.{eqb-true, eq-eqb}
 use lib.Dec.{eqb}
@@ -13,9 +13,9 @@ use Rattle.words.proofs.Tests.{and-left, and-right, differ, Each, each-so, thos
 use Rattle.list.specs.Fault.{noRecord, rises}
 use Rattle.list.specs.Checking.{Placed, records, checkSays}
 use Rattle.list.specs.declared.records.Record.{Record}
-use Rattle.list.proofs.Ordered.{rises-trans, rises-asym, Alike, alike-before, alike-not, neither}
+use Rattle.list.proofs.Ordered.{rises-trans, Alike, alike-before, alike-not, neither}
 use Rattle.list.proofs.Passed.{Sound, Chain, all-follow}
-use Rattle.edit.specs.Editing.{recordsIn, sameEntry, dropFrom}
+use Rattle.edit.specs.Editing.{recordsIn, sameEntry}
 
 -- each of some records is sound and follows the one before it
 unfoldable pub InOrder : Realm → Record → List Record → Type 0
@@ -38,6 +38,11 @@ above-all home e [] o = tt
 above-all home e (r ∷ rs) o = (o .0 .1, each-so (λ q p. rises-trans e r q (o .0 .1) p) rs (above-all home r rs (o .1)))
 
 -- the same kind, realm and id, as a test
+pub alike-same : (a b : Record) → Alike a b → sameEntry a b ≡ true
+unfolding sameEntry sameRealm
+alike-same a b s =
+    rw (s .kind, s .realm, s .id, eq-eqb (b .kind) (b .kind) refl, eq-eqb (b .realm .hi) (b .realm .hi) refl, eq-eqb (b .realm .lo) (b .realm .lo) refl, eq-eqb (b .id) (b .id) refl)
+
 pub same-alike : (a b : Record) → sameEntry a b ≡ true → Alike a b
 unfolding sameEntry sameRealm
 same-alike a b q =
@@ -50,11 +55,6 @@ same-alike a b q =
       realm = λ j. record { hi = hi j; lo = lo j };
       id = eqb-true (a .id) (b .id) (and-right (sameRealm (a .realm) (b .realm)) (eqb (a .id) (b .id)) r);
     }
-
-pub alike-same : (a b : Record) → Alike a b → sameEntry a b ≡ true
-unfolding sameEntry sameRealm
-alike-same a b s =
-    rw (s .kind, s .realm, s .id, eq-eqb (b .kind) (b .kind) refl, eq-eqb (b .realm .hi) (b .realm .hi) refl, eq-eqb (b .realm .lo) (b .realm .lo) refl, eq-eqb (b .id) (b .id) refl)
 
 pub alike-back : (a b : Record) → Alike a b → Alike b a
 alike-back a b s = record { kind = sym (s .kind); realm = sym (s .realm); id = sym (s .id) }

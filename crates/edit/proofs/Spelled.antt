@@ -12,7 +12,6 @@ use Rattle.words.specs.Test.{if_then_else_}
 use Rattle.words.specs.Number.{Bytes, part, numberAt}
 use Rattle.words.specs.Writing.{digits}
 use Rattle.words.specs.Realm.{zeroRealm, realmAt, realmBytes}
-use Rattle.words.specs.declared.realm.Realm.{Realm}
 use Rattle.words.proofs.Digits.{part-add}
 use Rattle.words.proofs.Written.{digits-length, realm-length, number-again, FitsRealm, realm-again, number-spelled, number-fits, realm-spelled, realm-fits}
 use Rattle.list.specs.Kind.{bodyOf, bodyLength, size, isKnown}

@@ -11,7 +11,7 @@ use Rattle.list.specs.Fault.{rises}
 use Rattle.list.specs.declared.records.Record.{Record}
 use Rattle.list.proofs.Ordered.{rises-asym, neither}
 use Rattle.edit.specs.Spelling.{spelled, spell}
-use Rattle.edit.specs.Editing.{sameEntry, dropFrom}
+use Rattle.edit.specs.Editing.{sameEntry, putIn, dropFrom}
 use Rattle.edit.proofs.Sorted.{InOrder, alike-same, alike-back, before-differs, after-differs, none-before, rest-after, none-same}
 
 module _ (r : Record) where
@@ -24,6 +24,11 @@ module _ (r : Record) where
 
   abbrev pub later : List Record → List Record
   later = those (λ q. rises r q)
+
+  -- a put stands between those before and those after
+  pub put-parts : (rs : List Record) → putIn r rs ≡ earlier rs ++ (r ∷ later rs)
+  unfolding putIn
+  put-parts rs = refl
 
   -- neither those before nor those after are the same
   abbrev pub differs : Record → Bool

@@ -2,14 +2,14 @@
 -- nothing.
 use mathlib.Core.Path.{_≡_, refl, sym, _∙_, ap, subst}
 use mathlib.Core.List.{List, [], _∷_, _++_, append-assoc, append-nil}
-use mathlib.Core.Bool.{Bool, true, false, cond, not}
+use mathlib.Core.Bool.{Bool, true, false, not}
 use Prim.Native.Nat.{ℕ, _+_, _≤_, _<_}
 use native.Mathlib.Nat.{add-zero}
 use native.Mathlib.Omega.{arith}
 use borrow.Author.Tests.{lt-ltb}
 use lib.Dec.{ltb}
-use lib.ListN.{length, getD, take, drop, length-append, length-drop, drop-of-length-le}
-use lib.Seq.{drop-drop, take-add, take-at, drop-at, take-all}
+use lib.ListN.{length, getD, take, drop, length-append, length-drop}
+use lib.Seq.{drop-drop, take-add, take-at, drop-at}
 use Rattle.words.specs.Test.{if_then_else_, anyOf, those}
 use Rattle.words.specs.Said.{done}
 use Rattle.words.specs.Number.{Bytes}
@@ -20,7 +20,6 @@ use Rattle.list.specs.Reading.{recordOf, readOf}
 use Rattle.list.specs.Fault.{rises}
 use Rattle.list.specs.Checking.{checkSays}
 use Rattle.list.specs.declared.records.Record.{Record}
-use Rattle.list.specs.declared.records.Read.the-variants.{Whole}
 use Rattle.list.proofs.Tails.{is}
 use Rattle.list.proofs.Ordered.{rises-asym}
 use Rattle.edit.specs.Entry.{isEntry}
@@ -31,7 +30,7 @@ use Rattle.edit.specs.declared.spot.Spot.{Spot}
 use Rattle.edit.proofs.Spelled.{Fitting, spelled-length, read-back}
 use Rattle.edit.proofs.Cuts.{spelled-size, sized-some, spelled-whole}
 use Rattle.edit.proofs.Sorted.{InOrder, before-differs, none-before, rest-after, there}
-use Rattle.edit.proofs.Heads.{Headed, headed, entries}
+use Rattle.edit.proofs.Heads.{headed, entries}
 
 -- the search has come to a place: what is left of the records says the rest
 pub record Reached (list : List ℕ) (r : Record) (at : ℕ) : Type 0 where

@@ -1,22 +1,22 @@
 -- The verdict on a list with a record put or dropped, told from the old list. Assumes nothing.
 use mathlib.Core.Path.{_≡_, refl, sym, _∙_, ap, subst}
-use mathlib.Core.List.{List, [], _∷_, _++_, map}
+use mathlib.Core.List.{List, [], _∷_, _++_}
 use mathlib.Core.Bool.{Bool, true, false, not, _&&_}
-use Prim.Native.Nat.{ℕ, _+_, _≤_, _<_}
+use Prim.Native.Nat.{ℕ, _+_, _<_}
 use native.Mathlib.Nat.{zero-add}
 use native.Mathlib.Omega.{arith}
 use borrow.Author.Tests.{eqb-true, eqb-false, ltb-false, lt-ltb, le-ltb}
 use lib.Dec.{eqb, leb, ltb}
 use lib.ListN.{length, length-append}
 use Rattle.words.specs.Test.{if_then_else_, anyOf, those}
-use Rattle.words.specs.Said.{Said, done, refused, andThen}
+use Rattle.words.specs.Said.{done, refused, andThen}
 use Rattle.words.specs.Number.{Bytes}
 use Rattle.words.specs.Realm.{zeroRealm, realmAt}
 use Rattle.words.specs.declared.realm.Realm.{Realm}
 use Rattle.words.proofs.Tests.{Each, each-so, each-append, those-each, those-pass, any-alike, any-map}
 use Rattle.list.specs.Kind.{body, bodies, bodyOf, wantsMask}
 use Rattle.list.specs.Fault.{begins, noRecord, rises, isForbidden, lacksControl, endFault}
-use Rattle.list.specs.Checking.{Placed, records, cut, refusedAt, faultsAfter, has, seenIn, checkSays}
+use Rattle.list.specs.Checking.{Placed, records, refusedAt, faultsAfter, has, seenIn, checkSays}
 use Rattle.list.specs.declared.records.Record.{Record}
 use Rattle.list.proofs.Ordered.{rises-trans}
 use Rattle.list.proofs.Passed.{passes}
@@ -24,11 +24,11 @@ use Rattle.edit.specs.Spelling.{spelled, spell}
 use Rattle.edit.specs.Editing.{recordsIn, sameEntry, putIn, dropFrom}
 use Rattle.edit.specs.Spot.{hasMask, putVerdict, dropVerdict}
 use Rattle.edit.proofs.Spelled.{Fitting}
-use Rattle.edit.proofs.Cuts.{places, finds, cut-spell, records-spell, spelled-whole, all-fit}
+use Rattle.edit.proofs.Cuts.{finds, cut-spell, records-spell, spelled-whole, all-fit}
 use Rattle.edit.proofs.Sorted.{InOrder, in-order-all, alike-same, not-same}
 use Rattle.edit.proofs.Heads.{Headed, headed, home-is}
 use Rattle.edit.proofs.Spots.{before-cons, first-before}
-use Rattle.edit.proofs.Splits.{earlier, same, later, split, dropped, lastOf, last-rises, prefix, suffix, joined, restart, spell-append}
+use Rattle.edit.proofs.Splits.{earlier, same, later, put-parts, split, dropped, lastOf, last-rises, prefix, suffix, joined, restart, spell-append}
 use Rattle.edit.proofs.Faultless.{ownFault, faults-past, faults-none, faults-one, has-places}
 use Rattle.edit.proofs.Endings.{ofKind, seenBy, Ended, ended, put-end, drop-end}
 
@@ -152,17 +152,17 @@ module _ (list : List ℕ) (bytes : Bytes list) (passing : checkSays list ≡ do
     last-before = last-rises noRecord r (earlier r rs) first-rises below
 
     pub fit-put : Each Fitting (putIn r rs)
-    unfolding putIn Each
-    fit-put = each-append Fitting (earlier r rs) (r ∷ later r rs) fit-earlier (f, fit-later)
+    unfolding Each
+    fit-put = rw (put-parts r rs) (each-append Fitting (earlier r rs) (r ∷ later r rs) fit-earlier (f, fit-later))
 
     pub fit-drop : Each Fitting (dropFrom r rs)
     unfolding dropFrom
     fit-drop = those-each Fitting (λ q. not (sameEntry r q)) rs fit
 
     faults-put : faultsAfter home noRecord (finds 0 (putIn r rs)) ≡ refusedAt (length (spell (earlier r rs))) (ownFault home r)
-    unfolding putIn
     faults-put =
-        faults-past home noRecord 0 (earlier r rs) (r ∷ later r rs) order-earlier fit-earlier
+        ap (λ (xs : List Record). faultsAfter home noRecord (finds 0 xs)) (put-parts r rs)
+        ∙ faults-past home noRecord 0 (earlier r rs) (r ∷ later r rs) order-earlier fit-earlier
         ∙ faults-one home (lastOf noRecord (earlier r rs)) (0 + length (spell (earlier r rs))) r (later r rs) last-before (order-later r above)
         ∙ ap (λ (n : ℕ). refusedAt n (ownFault home r)) (zero-add (length (spell (earlier r rs))))
 
@@ -174,9 +174,9 @@ module _ (list : List ℕ) (bytes : Bytes list) (passing : checkSays list ≡ do
 
     -- the new list with the record put
     pub put-verdict : (at n : ℕ) → at ≡ length (spell (earlier r rs)) → n ≡ length (spell (putIn r rs)) → checkSays (spell (putIn r rs)) ≡ putVerdict list r at n
-    unfolding putVerdict putIn ownFault
+    unfolding putVerdict ownFault
     put-verdict at n p q =
-        check-new (putIn r rs) (earlier r (head .rest) ++ (r ∷ later r rs)) (ap (λ (xs : List Record). xs ++ (r ∷ later r rs)) earlier-first) fit-put
+        check-new (putIn r rs) (earlier r (head .rest) ++ (r ∷ later r rs)) (put-parts r rs ∙ ap (λ (xs : List Record). xs ++ (r ∷ later r rs)) earlier-first) fit-put
         ∙ rw (faults-put, put-end r entry home noRecord rs order old-ended, mask-is, p, q)
         (put-ladder (length (spell (earlier r rs))) (length (spell (putIn r rs))) (ltb 4096 (length (spell (putIn r rs)))) (ltb 63 (r .rights)) (isForbidden home r) (wantsMask (r .kind) && not (ofKind (λ k. eqb k 5) rs)) (lacksControl r))
 

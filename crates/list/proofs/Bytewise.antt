@@ -1,7 +1,7 @@
 -- The order of records by their numbers is the order of their bytes. Assumes nothing.
 use mathlib.Core.Path.{_≡_, refl, sym, _∙_, ap}
 use mathlib.Core.List.{List, [], _∷_, _++_, append-nil}
-use mathlib.Core.Bool.{Bool, true, false, not, _||_, _&&_}
+use mathlib.Core.Bool.{Bool, true, false, not, _&&_}
 use Prim.Native.Nat.{ℕ, _+_, _≤_, _<_}
 use native.Mathlib.Omega.{arith}
 use borrow.Author.Tests.{eqb-true, eqb-false}
@@ -12,7 +12,7 @@ use Rattle.words.specs.Test.{if_then_else_}
 use Rattle.words.specs.Number.{Bytes, number, part, numberAt, less, before}
 use Rattle.words.specs.Realm.{zeroRealm, realmAt, lessRealm}
 use Rattle.words.proofs.Order.{apart, less-last, parts, number-at, realms}
-use Rattle.list.specs.Kind.{body, bodies, bodyOf, bodyLength, size}
+use Rattle.list.specs.Kind.{bodyOf, bodyLength, size}
 use Rattle.list.specs.Reading.{recordOf, readOf}
 use Rattle.list.specs.Fault.{rises}
 use Rattle.list.specs.Bytewise.{key, risesInBytes}

@@ -1,14 +1,13 @@
 -- The order of records: it is transitive, no record comes before itself, and two that neither comes before the other agree in kind,
 -- realm and id. Assumes nothing.
-use mathlib.Core.Path.{_≡_, refl, sym, _∙_, ap}
+use mathlib.Core.Path.{_≡_, refl, sym, _∙_}
 use mathlib.Core.Bool.{Bool, true, false, not, _&&_}
 use Prim.Native.Nat.{ℕ, _<_}
 use native.Mathlib.Omega.{arith}
 use borrow.Author.Tests.{ltb-true, ltb-false, lt-ltb, le-ltb, ne-eqb}
 use lib.Dec.{eqb, ltb}
 use Rattle.words.specs.Realm.{lessRealm}
-use Rattle.words.specs.declared.realm.Realm.{Realm}
-use Rattle.words.proofs.Tests.{and-left, and-right, differ}
+use Rattle.words.proofs.Tests.{and-left, and-right}
 use Rattle.words.proofs.Order.{less-trans, less-asym, less-total}
 use Rattle.list.specs.Fault.{rises}
 use Rattle.list.specs.declared.records.Record.{Record}

@@ -4,6 +4,7 @@ use Prim.Native.Nat.{ℕ}
 use lib.ListN.{take, drop, replicate}
 use Rattle.words.specs.Said.{done, refused}
 use Rattle.words.specs.Lines.{Line, line}
+use Rattle.words.specs.declared.realm.Realm.{Realm}
 use Rattle.list.specs.Checking.{checkSays}
 
 unfoldable pub fine : List ℕ → Line
@@ -12,7 +13,14 @@ fine list = line (checkSays list) (done [])
 unfoldable pub refusedWith : ℕ → ℕ → List ℕ → Line
 refusedWith number place list = line (checkSays list) (refused number (place ∷ []))
 
--- kind 1 and realm R, sixteen bytes of 17
+-- sixteen times 17, and sixteen times 18
+unfoldable pub realmR : Realm
+realmR = record { hi = 0x1111_1111_1111_1111; lo = 0x1111_1111_1111_1111 }
+
+unfoldable pub realmS : Realm
+realmS = record { hi = 0x1212_1212_1212_1212; lo = 0x1212_1212_1212_1212 }
+
+-- kind 1 and realm R
 unfoldable pub headerR : List ℕ
 headerR = 1 ∷ replicate 16 17
 

@@ -3,9 +3,9 @@ use mathlib.Core.Path.{refl}
 use mathlib.Core.List.{_++_}
 use Rattle.words.specs.Lines.{Hold}
 use Rattle.words.proofs.Lines.{sameValues, sameSaid, allHold, by-test, together}
-use Rattle.list.specs.Day.{headerR, objects, listE, day as listDay}
+use Rattle.list.specs.Day.{realmR, realmS, headerR, objects, listE, day as listDay}
 use Rattle.list.proofs.Day.{day-holds as lists-hold}
-use Rattle.rights.specs.Day.{shown, gives, refusing, realmR, realmS, caller, nobody, theFile, theDirectory, by, byMode, grouped, foreign, starred, others, ours, day}
+use Rattle.rights.specs.Day.{shown, gives, refusing, caller, nobody, theFile, theDirectory, by, byMode, grouped, foreign, starred, others, ours, day}
 use Rattle.rights.proofs.Opened.{all}
 
 pub day-holds : Hold day

@@ -7,7 +7,7 @@ use Rattle.words.specs.Said.{Said, done, refused}
 use Rattle.words.specs.Lines.{Line, line}
 use Rattle.words.specs.Realm.{unknownRealm}
 use Rattle.words.specs.declared.realm.Realm.{Realm}
-use Rattle.list.specs.Day.{headerR, listE, day as listDay}
+use Rattle.list.specs.Day.{realmR, realmS, headerR, listE, day as listDay}
 use Rattle.evaluate.specs.Evaluation.{Decided}
 use Rattle.evaluate.specs.declared.asking.Caller.{Caller}
 use Rattle.evaluate.specs.declared.asking.File.{File}
@@ -25,13 +25,6 @@ gives rights start size d = line (shown (d .says) (d .start) (d .size)) (done (r
 -- a refusal hands back the empty part at the beginning
 unfoldable pub refusing : ℕ → List ℕ → Decided → Line
 refusing number values d = line (shown (d .says) (d .start) (d .size)) (refused number (values ++ (0 ∷ 0 ∷ [])))
-
--- sixteen times 17, and sixteen times 18
-unfoldable pub realmR : Realm
-realmR = record { hi = 0x1111_1111_1111_1111; lo = 0x1111_1111_1111_1111 }
-
-unfoldable pub realmS : Realm
-realmS = record { hi = 0x1212_1212_1212_1212; lo = 0x1212_1212_1212_1212 }
 
 unfoldable pub caller : Realm → ℕ → ℕ → Caller
 caller realm user group = record { realm = realm; user = user; group = group }

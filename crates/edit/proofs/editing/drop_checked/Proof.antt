@@ -1,10 +1,10 @@
+use mathlib.Core.Path.{sym, _∙_}
+use native.Mathlib.Omega.{arith}
+use borrow.Author.Needs.{needs}
+use borrow.Author.Tests.{not-true, not-false}
 use Rattle.edit.specs.Entry.{recordFor}
 use Rattle.edit.proofs.Outcomes.{Located, drop-kind, drop-nothing, drop-refused, drop-written}
 use Rattle.edit.proofs.Lengths.{is-above}
-use mathlib.Core.Path.{sym, _∙_}
-use borrow.Author.Tests.{not-true, not-false}
-use native.Mathlib.Omega.{arith}
-use borrow.Author.Needs.{needs}
 use Rattle.edit.proofs.editing.drop_checked.Statement.{statement}
 use Rattle.edit.proofs.editing.drop_checked.Tie as tie
 

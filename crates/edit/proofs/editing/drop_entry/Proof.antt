@@ -1,5 +1,5 @@
-use Rattle.edit.proofs.Outcomes.{checked, drop-old}
 use borrow.Author.Needs.{needs}
+use Rattle.edit.proofs.Outcomes.{checked, drop-old}
 use Rattle.edit.proofs.editing.drop_entry.Statement.{statement}
 use Rattle.edit.proofs.editing.drop_entry.Tie as tie
 

@@ -1,14 +1,12 @@
-use borrow.Author.Tests.{ltb-false}
-use mathlib.Core.Path.{refl}
-use Rattle.list.proofs.Passed.{passes}
+use mathlib.Core.Path.{refl, sym, _∙_}
+use native.Mathlib.Omega.{arith}
+use borrow.Author.Needs.{needs}
+use borrow.Author.Tests.{ltb-false, not-true, not-false}
 use lib.ListN.{length}
+use Rattle.list.proofs.Passed.{passes}
 use Rattle.edit.specs.Entry.{recordFor}
 use Rattle.edit.proofs.Outcomes.{Located, put-kind, put-refused, put-written}
 use Rattle.edit.proofs.Lengths.{is-above}
-use mathlib.Core.Path.{sym, _∙_}
-use borrow.Author.Tests.{not-true, not-false}
-use native.Mathlib.Omega.{arith}
-use borrow.Author.Needs.{needs}
 use Rattle.edit.proofs.editing.put_checked.Statement.{statement}
 use Rattle.edit.proofs.editing.put_checked.Tie as tie
 

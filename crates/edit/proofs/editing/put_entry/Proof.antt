@@ -1,5 +1,5 @@
-use Rattle.edit.proofs.Outcomes.{checked, put-old}
 use borrow.Author.Needs.{needs}
+use Rattle.edit.proofs.Outcomes.{checked, put-old}
 use Rattle.edit.proofs.editing.put_entry.Statement.{statement}
 use Rattle.edit.proofs.editing.put_entry.Tie as tie
 

@@ -1,7 +1,7 @@
 use native.Mathlib.Omega.{arith}
+use borrow.Author.Needs.{needs}
 use Rattle.edit.specs.Entry.{recordFor}
 use Rattle.edit.proofs.Lengths.{size-is}
-use borrow.Author.Needs.{needs}
 use Rattle.edit.proofs.entry.record_of.Statement.{statement}
 use Rattle.edit.proofs.entry.record_of.Tie as tie
 

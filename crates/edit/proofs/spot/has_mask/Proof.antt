@@ -1,6 +1,6 @@
 use mathlib.Core.Path.{_∙_}
-use Rattle.edit.proofs.Verdicts.{mask-told}
 use borrow.Author.Needs.{needs}
+use Rattle.edit.proofs.Verdicts.{mask-told}
 use Rattle.edit.proofs.spot.has_mask.Statement.{statement}
 use Rattle.edit.proofs.spot.has_mask.Tie as tie
 

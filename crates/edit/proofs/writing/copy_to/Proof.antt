@@ -1,5 +1,5 @@
-use Rattle.edit.proofs.Pieces.{copied}
 use borrow.Author.Needs.{needs}
+use Rattle.edit.proofs.Pieces.{copied}
 use Rattle.edit.proofs.writing.copy_to.Statement.{statement}
 use Rattle.edit.proofs.writing.copy_to.Tie as tie
 

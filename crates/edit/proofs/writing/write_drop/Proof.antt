@@ -1,11 +1,11 @@
-use native.Mathlib.Nat.{sub-zero}
-use native.Mathlib.Omega.{arith}
 use mathlib.Core.Path.{_∙_}
 use mathlib.Core.List.{[]}
+use native.Mathlib.Nat.{sub-zero}
+use native.Mathlib.Omega.{arith}
+use borrow.Author.Needs.{needs}
 use borrow.Rule.Slice.PartAt.{part-to-end}
 use Rattle.edit.specs.Spot.{splice}
 use Rattle.edit.proofs.Outcomes.{no-room, room, length-is, without-piece}
-use borrow.Author.Needs.{needs}
 use Rattle.edit.proofs.writing.write_drop.Statement.{statement}
 use Rattle.edit.proofs.writing.write_drop.Tie as tie
 

@@ -1,7 +1,7 @@
-use Rattle.words.specs.Writing.{digits}
 use mathlib.Core.Path.{_∙_}
-use Rattle.edit.proofs.Pieces.{part-there, part-not-there}
 use borrow.Author.Needs.{needs}
+use Rattle.words.specs.Writing.{digits}
+use Rattle.edit.proofs.Pieces.{part-there, part-not-there}
 use Rattle.edit.proofs.writing.write_id_in.Statement.{statement}
 use Rattle.edit.proofs.writing.write_id_in.Tie as tie
 

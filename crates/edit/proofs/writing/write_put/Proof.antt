@@ -1,12 +1,11 @@
-use native.Mathlib.Nat.{sub-zero}
-use native.Mathlib.Omega.{arith}
 use mathlib.Core.Path.{sym, _∙_}
+use native.Mathlib.Nat.{sub-zero}
+use borrow.Author.Needs.{needs}
 use borrow.Rule.Slice.PartAt.{part-to-end}
-use Rattle.edit.proofs.Spelled.{spelled-length}
 use Rattle.edit.specs.Spot.{splice}
 use Rattle.edit.specs.Spelling.{spelled}
+use Rattle.edit.proofs.Spelled.{spelled-length}
 use Rattle.edit.proofs.Outcomes.{no-room, room, length-is, piecewise}
-use borrow.Author.Needs.{needs}
 use Rattle.edit.proofs.writing.write_put.Statement.{statement}
 use Rattle.edit.proofs.writing.write_put.Tie as tie
 

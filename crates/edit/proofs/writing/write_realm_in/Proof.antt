@@ -1,7 +1,7 @@
-use Rattle.words.specs.Realm.{realmBytes}
 use mathlib.Core.Path.{_∙_}
-use Rattle.edit.proofs.Pieces.{part-there, part-not-there}
 use borrow.Author.Needs.{needs}
+use Rattle.words.specs.Realm.{realmBytes}
+use Rattle.edit.proofs.Pieces.{part-there, part-not-there}
 use Rattle.edit.proofs.writing.write_realm_in.Statement.{statement}
 use Rattle.edit.proofs.writing.write_realm_in.Tie as tie
 

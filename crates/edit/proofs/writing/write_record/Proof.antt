@@ -1,9 +1,9 @@
 use Prim.Native.Nat.{_+_}
-use lib.ListN.{length-set}
 use native.Mathlib.Omega.{arith}
+use borrow.Author.Needs.{needs}
+use lib.ListN.{length-set}
 use Rattle.edit.proofs.Lengths.{size-is}
 use Rattle.edit.proofs.Pieces.{record-written}
-use borrow.Author.Needs.{needs}
 use Rattle.edit.proofs.writing.write_record.Statement.{statement}
 use Rattle.edit.proofs.writing.write_record.Tie as tie
 

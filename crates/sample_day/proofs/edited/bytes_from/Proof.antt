@@ -1,7 +1,7 @@
 use Prim.Native.Nat.{_≤_, _-_}
+use native.Mathlib.Omega.{arith}
 use borrow.Author.Needs.{needs}
 use lib.ListN.{length}
-use native.Mathlib.Omega.{arith}
 use Rattle.sample_day.proofs.edited.bytes_from.Statement.{statement}
 use Rattle.sample_day.proofs.edited.bytes_from.Tie as tie
 

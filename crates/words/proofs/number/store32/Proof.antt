@@ -1,7 +1,7 @@
 use native.Mathlib.Omega.{arith}
+use borrow.Author.Needs.{needs}
 use lib.ListN.{length-set}
 use Rattle.words.proofs.Written.{stored}
-use borrow.Author.Needs.{needs}
 use Rattle.words.proofs.number.store32.Statement.{statement}
 use Rattle.words.proofs.number.store32.Tie as tie
 

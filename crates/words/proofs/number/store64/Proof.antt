@@ -1,6 +1,6 @@
 use native.Mathlib.Omega.{arith}
-use Rattle.words.proofs.Written.{stored-halves}
 use borrow.Author.Needs.{needs}
+use Rattle.words.proofs.Written.{stored-halves}
 use Rattle.words.proofs.number.store64.Statement.{statement}
 use Rattle.words.proofs.number.store64.Tie as tie
 

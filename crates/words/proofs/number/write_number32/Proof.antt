@@ -1,9 +1,9 @@
 use mathlib.Core.Path.{_∙_}
 use native.Mathlib.Omega.{arith}
+use borrow.Author.Needs.{needs}
 use Rattle.words.specs.Writing.{digits}
 use Rattle.words.proofs.Digits.{fits}
 use Rattle.words.proofs.Written.{digits-length, has-room, has-none}
-use borrow.Author.Needs.{needs}
 use Rattle.words.proofs.number.write_number32.Statement.{statement}
 use Rattle.words.proofs.number.write_number32.Tie as tie
 

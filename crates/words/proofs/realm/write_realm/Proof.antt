@@ -1,9 +1,9 @@
 use mathlib.Core.Path.{_∙_}
 use native.Mathlib.Omega.{arith}
+use borrow.Author.Needs.{needs}
 use Rattle.words.specs.Realm.{realmBytes}
 use Rattle.words.proofs.Digits.{fits}
 use Rattle.words.proofs.Written.{realm-length, stored-realm, has-room, has-none}
-use borrow.Author.Needs.{needs}
 use Rattle.words.proofs.realm.write_realm.Statement.{statement}
 use Rattle.words.proofs.realm.write_realm.Tie as tie
 
