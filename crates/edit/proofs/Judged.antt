@@ -1,27 +1,18 @@
 -- The verdict on a new list, by what was tested. Assumes nothing.
-use mathlib.Core.Path.{_≡_, refl, sym, _∙_}
+use mathlib.Core.Path.{_≡_, refl, sym}
 use mathlib.Core.List.{List}
 use mathlib.Core.Bool.{Bool, true, false, not, _&&_}
 use Prim.Native.Nat.{ℕ, _≤_, _<_}
 use borrow.Author.Tests.{lt-ltb, le-ltb, le-leb, lt-leb}
 use lib.Dec.{eqb, ltb}
-use Rattle.words.specs.Test.{if_then_else_}
 use Rattle.words.specs.Realm.{realmAt}
 use Rattle.words.specs.declared.realm.Realm.{Realm}
 use Rattle.list.specs.Kind.{wantsMask}
-use Rattle.list.specs.Fault.{rises, isForbidden, lacksControl}
+use Rattle.list.specs.Fault.{isForbidden, lacksControl}
 use Rattle.list.specs.declared.records.Record.{Record}
 use Rattle.evaluate.specs.Evaluation.{verdictSays}
 use Rattle.evaluate.specs.declared.verdict.Verdict.the-variants.{Fine, Refused}
 use Rattle.edit.specs.Spot.{hasMask, putVerdict, dropVerdict}
-
--- a record that the one at a place comes after, and one that it does not
-module _ (r q : Record) {b : Bool} (told : b ≡ rises r q) where
-  pub not-there : b ≡ true → 0 ≡ (if rises r q then 0 else q .size)
-  not-there t = rw (sym told ∙ t) refl
-
-  pub is-there : b ≡ false → q .size ≡ (if rises r q then 0 else q .size)
-  is-there t = rw (sym told ∙ t) refl
 
 module _ (list : List ℕ) (kind : ℕ) where
   pub no-mask-wanted : kind < 6 → false ≡ (wantsMask kind && not (hasMask list))

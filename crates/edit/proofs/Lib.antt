@@ -2,6 +2,7 @@ pub mod Spelled
 pub mod Cuts
 pub mod Sorted
 pub mod Heads
+pub mod Sides
 pub mod Spots
 pub mod Lengths
 pub mod Pieces

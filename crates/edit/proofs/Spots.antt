@@ -9,7 +9,7 @@ use native.Mathlib.Omega.{arith}
 use borrow.Author.Tests.{lt-ltb}
 use lib.Dec.{ltb}
 use lib.ListN.{length, getD, take, drop, length-append, length-drop}
-use lib.Seq.{drop-drop, take-add, take-at, drop-at}
+use lib.Seq.{getD-drop, drop-drop, take-add, take-at, drop-at}
 use Rattle.words.specs.Test.{if_then_else_, anyOf, those}
 use Rattle.words.specs.Said.{done}
 use Rattle.words.specs.Number.{Bytes}
@@ -25,12 +25,18 @@ use Rattle.list.proofs.Ordered.{rises-asym}
 use Rattle.edit.specs.Entry.{isEntry}
 use Rattle.edit.specs.Spelling.{spelled, spell}
 use Rattle.edit.specs.Editing.{recordsIn, sameEntry}
-use Rattle.edit.specs.Spot.{Finds}
+use Rattle.edit.specs.Spot.{sideOf, Finds}
+use Rattle.edit.specs.declared.spot.Side.{Side}
+use Rattle.edit.specs.declared.spot.Side.the-variants.{Before, Same, After}
 use Rattle.edit.specs.declared.spot.Spot.{Spot}
 use Rattle.edit.proofs.Spelled.{Fitting, spelled-length, read-back}
 use Rattle.edit.proofs.Cuts.{spelled-size, sized-some, spelled-whole}
 use Rattle.edit.proofs.Sorted.{InOrder, before-differs, none-before, rest-after, there}
 use Rattle.edit.proofs.Heads.{headed, entries}
+use Rattle.edit.proofs.Sides.{was-before, was-after, was-same}
+
+pub first-of : (list : List ℕ) (at : ℕ) → getD list at 0 ≡ getD (drop at list) 0 0
+first-of list at = sym (getD-drop at list 0 0 ∙ ap (λ (i : ℕ). getD list i 0) (add-zero at))
 
 -- the search has come to a place: what is left of the records says the rest
 pub record Reached (list : List ℕ) (r : Record) (at : ℕ) : Type 0 where
@@ -176,21 +182,23 @@ module _ {list : List ℕ} {r : Record} {at : ℕ} (reached : Reached list r at)
     enough = rw kind-is (omega (arith, ap length tail-is, length-append (spelled it) (spell others), spelled-length it))
 
     -- the record that is read there
-    module _ {q : Record} (reads : q ≡ recordOf (getD (drop at list) 0 0) (drop at list)) where
-      is-it : q ≡ it
-      is-it =
-          let w = ap readOf tail-is ∙ read-back it (spell others) (fits .0) in
-          reads ∙ is (drop at list) it w .same
+    read-it : recordOf (getD (drop at list) 0 0) (drop at list) ≡ it
+    read-it = is (drop at list) it (ap readOf tail-is ∙ read-back it (spell others) (fits .0)) .same
 
-      pub goes-on : (0 < q .size) × (at + q .size ≤ length list)
-      goes-on = rw is-it (sized-some it (fits .0), past-inside list at it others tail-is (fits .0))
+    size-it : size (getD (drop at list) 0 0) ≡ it .size
+    size-it = ap size kind-is ∙ sym (fits .0 .sized)
 
-      pub goes : rises q r ≡ true → Reached list r (at + q .size)
+    -- the search goes on behind it
+    module _ {m : ℕ} (sized : m ≡ size (getD (drop at list) 0 0)) where
+      pub goes-on : (0 < m) × (at + m ≤ length list)
+      goes-on = rw (sized ∙ size-it) (sized-some it (fits .0), past-inside list at it others tail-is (fits .0))
+
+      pub goes : {side : Side} → side ≡ sideOf (recordOf (getD (drop at list) 0 0) (drop at list)) r → side ≡ Before → Reached list r (at + m)
       unfolding InOrder Each it others
-      goes p =
-          let p′ = rw is-it at p in
+      goes told s =
+          let p = ap (λ (q : Record). rises q r) (sym read-it) ∙ was-before (recordOf (getD (drop at list) 0 0) (drop at list)) r told s in
           let all = meets .is-rest in
-          rw is-it
+          rw (sized ∙ size-it)
           (record {
             last = it;
             rest = others;
@@ -199,39 +207,49 @@ module _ {list : List ℕ} {r : Record} {at : ℕ} (reached : Reached list r at)
             fit = fits .1;
             entry = subst (Each (λ q. isEntry (q .kind) ≡ true)) all (reached .entry) .1;
             order = subst (InOrder (realmAt 1 list) (reached .last)) all (reached .order) .1;
-            earlier = past-earlier list at it others tail-is (fits .0) r p′ ∙ ap (λ (rs : List Record). take at list ++ spell (those (λ q. rises q r) rs)) (sym all) ∙ reached .earlier;
-            later = sym (after-cons r it others p′) ∙ ap (those (λ q. rises r q)) (sym all) ∙ reached .later;
-            same = sym (same-cons r it others p′) ∙ ap (anyOf (sameEntry r)) (sym all) ∙ reached .same;
+            earlier = past-earlier list at it others tail-is (fits .0) r p ∙ ap (λ (rs : List Record). take at list ++ spell (those (λ q. rises q r) rs)) (sym all) ∙ reached .earlier;
+            later = sym (after-cons r it others p) ∙ ap (those (λ q. rises r q)) (sym all) ∙ reached .later;
+            same = sym (same-cons r it others p) ∙ ap (anyOf (sameEntry r)) (sym all) ∙ reached .same;
           })
 
-      pub stops : 1 < r .kind → rises q r ≡ false → (s : Spot) → s .at ≡ at → s .size ≡ (if rises r q then 0 else q .size) → Finds list r s
-      unfolding InOrder it others spell
-      stops l p s e n =
-          let all = meets .is-rest in
-          let p′ = rw is-it at p in
-          let order = subst (InOrder (realmAt 1 list) (reached .last)) all (reached .order) .1 in
-          let no-more = ap (those (λ x. rises x r)) all ∙ none-before r l it p′ (realmAt 1 list) others order in
-          let behind = sym (reached .later) ∙ ap (those (λ x. rises r x)) all ∙ rest-after r l it p′ (realmAt 1 list) others order in
-          let told = sym (reached .same) ∙ ap (anyOf (sameEntry r)) all ∙ there r l it p′ (realmAt 1 list) others order in
-          go (rises r it) (n ∙ ap (λ (x : Record). if rises r x then 0 else x .size) is-it) no-more behind told
-        where
-          front : those (λ x. rises x r) (reached .rest) ≡ [] → take (s .at) list ≡ spell (those (λ x. rises x r) (recordsIn list))
-          front z =
-              ap (λ (n : ℕ). take n list) e ∙ sym (append-nil (take at list)) ∙ ap (λ (rs : List Record). take at list ++ spell rs) (sym z)
-              ∙ reached .earlier
+    -- or it stops there, with the record or without
+    module _ {side : Side} (told : side ≡ sideOf (recordOf (getD (drop at list) 0 0) (drop at list)) r) (entry : 1 < r .kind) where
+      abbrev q : Record
+      q = recordOf (getD (drop at list) 0 0) (drop at list)
 
-          go : (t : Bool) → s .size ≡ (if t then 0 else it .size) → those (λ x. rises x r) (reached .rest) ≡ []
+      stops : (size : ℕ) → rises q r ≡ false → (t : Bool) → rises r q ≡ t → size ≡ (if t then 0 else it .size) → Finds list r (spotted at size)
+      unfolding InOrder it others spell spotted
+      stops size p t back n =
+          let all = meets .is-rest in
+          let p′ = ap (λ (x : Record). rises x r) (sym read-it) ∙ p in
+          let order = subst (InOrder (realmAt 1 list) (reached .last)) all (reached .order) .1 in
+          let turned = ap (λ (x : Record). rises r x) (sym read-it) ∙ back in
+          let no-more = ap (those (λ x. rises x r)) all ∙ none-before r entry it p′ (realmAt 1 list) others order in
+          let behind = sym (reached .later) ∙ ap (those (λ x. rises r x)) all ∙ rest-after r entry it p′ (realmAt 1 list) others order ∙ ap (λ (b : Bool). if b then it ∷ others else others) turned in
+          let has = sym (reached .same) ∙ ap (anyOf (sameEntry r)) all ∙ there r entry it p′ (realmAt 1 list) others order ∙ ap not turned in
+          go t n no-more behind has
+        where
+          front : those (λ x. rises x r) (reached .rest) ≡ [] → take at list ≡ spell (those (λ x. rises x r) (recordsIn list))
+          front z = sym (append-nil (take at list)) ∙ ap (λ (rs : List Record). take at list ++ spell rs) (sym z) ∙ reached .earlier
+
+          go : (t : Bool) → size ≡ (if t then 0 else it .size) → those (λ x. rises x r) (reached .rest) ≡ []
               → those (λ x. rises r x) (recordsIn list) ≡ (if t then it ∷ others else others) → anyOf (sameEntry r) (recordsIn list) ≡ not t
-              → Finds list r s
+              → Finds list r (spotted at size)
           go true m z b y = record {
             earlier = front z;
-            later = (λ j. drop (e j + m j) list) ∙ ap (λ (n : ℕ). drop n list) (add-zero at) ∙ tail-is ∙ ap spell (sym b);
+            later = ap (λ (n : ℕ). drop (at + n) list) m ∙ ap (λ (n : ℕ). drop n list) (add-zero at) ∙ tail-is ∙ ap spell (sym b);
             there = ap (ltb 0) m ∙ sym y;
-            inside = omega (arith, e, m, before);
+            inside = omega (arith, m, before);
           }
           go false m z b y = record {
             earlier = front z;
-            later = (λ j. drop (e j + m j) list) ∙ past-drop list at it others tail-is (fits .0) ∙ ap spell (sym b);
+            later = ap (λ (n : ℕ). drop (at + n) list) m ∙ past-drop list at it others tail-is (fits .0) ∙ ap spell (sym b);
             there = ap (ltb 0) m ∙ lt-ltb 0 (it .size) (sized-some it (fits .0)) ∙ sym y;
-            inside = omega (arith, e, m, past-inside list at it others tail-is (fits .0));
+            inside = omega (arith, m, past-inside list at it others tail-is (fits .0));
           }
+
+      pub stops-after : side ≡ After → Finds list r (spotted at 0)
+      stops-after s = let w = was-after q r told s in stops 0 (w .0) true (w .1) refl
+
+      pub stops-same : side ≡ Same → {m : ℕ} → m ≡ size (getD (drop at list) 0 0) → Finds list r (spotted at m)
+      stops-same s {m} sized = let w = was-same q r told s in stops m (w .0) false (w .1) (sized ∙ size-it)

@@ -18,6 +18,8 @@ use Rattle.edit.specs.Spelling.{spell}
 use Rattle.edit.specs.Editing.{recordsIn, sameEntry, roomSays, left, editedSays}
 use Rattle.edit.specs.declared.entry.Entry.{Entry}
 use Rattle.edit.specs.declared.editing.Edited.{Edited}
+use Rattle.edit.specs.declared.spot.Side.{Side}
+use Rattle.edit.specs.declared.spot.Side.the-variants.{Before, Same, After}
 use Rattle.edit.specs.declared.spot.Spot.{Spot}
 
 -- the record that an entry says
@@ -25,6 +27,10 @@ pub record Says (entry : Entry) (r : Record) : Type 0 where
   pub is-record : r ≡ recordFor entry
   pub short : r .size ≤ 22
   pub numbers : InWidth entry
+
+-- where a record stands by another
+unfoldable pub sideOf : Record → Record → Side
+sideOf q r = if rises q r then Before else if rises r q then After else Same
 
 -- what stands before a record's spot, what after it, and whether the record is there
 pub record Finds (list : List ℕ) (r : Record) (s : Spot) : Type 0 where

@@ -14,17 +14,21 @@ ghost use mathlib.Core.Bool.{true};
 ghost use mathlib.Core.List.{[]};
 ghost use Prim.Native.Nat.{_+_, _≤_, _<_};
 ghost use lib.ListN.{length, getD};
-ghost use Rattle.words.specs.Test.{if_then_else_};
 ghost use Rattle.words.specs.Said.{done};
 ghost use Rattle.list.specs.Kind.{size};
 ghost use Rattle.list.specs.Reading.{recordOf};
-ghost use Rattle.list.specs.Fault.{rises};
 ghost use Rattle.list.specs.Checking.{checkSays};
 ghost use Rattle.edit.specs.Entry.{isEntry};
-ghost use Rattle.edit.specs.Spot.{Finds, hasMask};
+ghost use Rattle.edit.specs.Spot.{sideOf, Finds, hasMask};
 
 // The record of the default realm, which comes before every entry.
 const HEADER: usize = 17;
+
+pub enum Side {
+    Before,
+    Same,
+    After,
+}
 
 // A place, and the length of the record there; of no length where the record is not in the list.
 pub struct Spot {
@@ -48,17 +52,33 @@ fn head_of(tail: &[u8]) -> Record
     })
 }
 
-// The spot of r at the first record that does not come before it.
-fn spot_at(at: usize, q: Record, r: Record) -> Spot
-    ensures { λ s. ⌜ (s .at ≡ at) × (s .size ≡ (if rises r q then 0 else q .size)) ⌝ }
+fn size_of(kind: u8) -> usize
+    requires { ⌜ isEntry kind ≡ true ⌝ }
+    ensures { λ r. ⌜ r ≡ size kind ⌝ }
 {
+    2 + realm_length(kind) + id_length(kind)
+}
+
+// Where the record that a tail begins with stands by r. Where the kinds differ they tell, and no more is read.
+fn side_of(tail: &[u8], r: Record) -> Side
+    requires { ⌜ (isEntry (getD (now tail) 0 0) ≡ true) × (size (getD (now tail) 0 0) ≤ length (now tail)) ⌝ }
+    ensures { λ s. ⌜ s ≡ sideOf (recordOf (getD (now (tail .entry)) 0 0) (now (tail .entry))) r ⌝ }
+{
+    let kind = tail[0];
+    if kind < r.kind {
+        return Side::Before;
+    }
+    if r.kind < kind {
+        return Side::After;
+    }
+    let q = head_of(tail);
+    if in_order(q, r) {
+        return Side::Before;
+    }
     if in_order(r, q) {
-        return Spot { at: at, size: 0 };
+        return Side::After;
     }
-    Spot {
-        at: at,
-        size: q.size,
-    }
+    Side::Same
 }
 
 pub(crate) fn find(list: &[u8], r: Record) -> Spot
@@ -67,11 +87,20 @@ pub(crate) fn find(list: &[u8], r: Record) -> Spot
 {
     let mut at = HEADER;
     while at < list.len() {
-        let q = head_of(&list[at..]);
-        if !in_order(q, r) {
-            return spot_at(at, q, r);
+        match side_of(&list[at..], r) {
+            Side::Before => {
+                at += size_of(list[at]);
+            }
+            Side::Same => {
+                return Spot {
+                    at: at,
+                    size: size_of(list[at]),
+                };
+            }
+            Side::After => {
+                return Spot { at: at, size: 0 };
+            }
         }
-        at += q.size;
     }
     Spot { at: at, size: 0 }
 }
