@@ -22,7 +22,7 @@ use Rattle.edit.proofs.Cuts.{read-again, spelled-whole}
 use Rattle.edit.proofs.Sorted.{in-order-all, alike-same}
 use Rattle.edit.proofs.Splits.{earlier, same, later, put-parts, differs, earlier-differ, later-differ, split, dropped}
 use Rattle.edit.proofs.Verdicts.{fit-put, fit-drop}
-use Rattle.edit.proofs.Outcomes.{entry-fits}
+use Rattle.edit.proofs.Located.{entry-fits}
 
 itself : (r : Record) → Alike r r
 itself r = record { kind = refl; realm = refl; id = refl }

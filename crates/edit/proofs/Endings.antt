@@ -93,7 +93,7 @@ module _ (r : Record) (entry : 1 < r .kind) (home : Realm) (e : Record) (rs : Li
       any-none (λ q. t (q .kind)) (same r rs)
       (each-so {Q = λ q. t (q .kind) ≡ false} (λ q s. ap t (sym (same-alike r q s .kind)) ∙ p) (same r rs) (those-pass (sameEntry r) rs))
 
-  pub of-put : (t : ℕ → Bool) → ofKind t (putIn r rs) ≡ (t (r .kind) || ofKind t rs)
+  of-put : (t : ℕ → Bool) → ofKind t (putIn r rs) ≡ (t (r .kind) || ofKind t rs)
   unfolding anyOf
   of-put t =
       ap (ofKind t) (put-parts r rs)
@@ -104,7 +104,7 @@ module _ (r : Record) (entry : 1 < r .kind) (home : Realm) (e : Record) (rs : Li
       go true p = or-true (ofKind t (earlier r rs))
       go false p = sym (of-parts t ∙ rw (none-of-same t p) refl)
 
-  pub powerless-put : anyOf lacksControl rs ≡ false → anyOf lacksControl (putIn r rs) ≡ lacksControl r
+  powerless-put : anyOf lacksControl rs ≡ false → anyOf lacksControl (putIn r rs) ≡ lacksControl r
   unfolding anyOf
   powerless-put p =
       let f = none-any lacksControl rs p in
@@ -121,10 +121,10 @@ module _ (r : Record) (entry : 1 < r .kind) (home : Realm) (e : Record) (rs : Li
   of-drop t = ap (ofKind t) (dropped r entry home e rs o) ∙ any-append (λ q. t (q .kind)) (earlier r rs) (later r rs)
 
   -- a drop takes no record of another kind
-  pub others-stay : (t : ℕ → Bool) → t (r .kind) ≡ false → ofKind t (dropFrom r rs) ≡ ofKind t rs
+  others-stay : (t : ℕ → Bool) → t (r .kind) ≡ false → ofKind t (dropFrom r rs) ≡ ofKind t rs
   others-stay t p = of-drop t ∙ sym (of-parts t ∙ rw (none-of-same t p) refl)
 
-  pub powerful-drop : anyOf lacksControl rs ≡ false → anyOf lacksControl (dropFrom r rs) ≡ false
+  powerful-drop : anyOf lacksControl rs ≡ false → anyOf lacksControl (dropFrom r rs) ≡ false
   unfolding dropFrom
   powerful-drop p =
       any-none lacksControl (dropFrom r rs) (those-each (λ q. lacksControl q ≡ false) (λ q. not (sameEntry r q)) rs (none-any lacksControl rs p))

@@ -11,6 +11,8 @@ pub mod Faultless
 pub mod Endings
 pub mod Verdicts
 pub mod Judged
+pub mod Spliced
+pub mod Located
 pub mod Outcomes
 pub mod Again
 pub mod Determined

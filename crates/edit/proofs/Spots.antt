@@ -141,12 +141,12 @@ module _ {list : List ℕ} {r : Record} {at : ℕ} (reached : Reached list r at)
 
   -- before the end a record stands
   module _ (before : at < length list) where
-    pub record Meets : Type 0 where
-      pub it : Record
-      pub others : List Record
-      pub is-rest : reached .rest ≡ it ∷ others
+    record Meets : Type 0 where
+      it : Record
+      others : List Record
+      is-rest : reached .rest ≡ it ∷ others
 
-    pub meets : Meets
+    meets : Meets
     unfolding spell
     meets = go (reached .rest) refl
       where

@@ -86,7 +86,7 @@ module _ (list : List ℕ) (bytes : Bytes list) (passing : checkSays list ≡ do
   old-ended : Ended (seenBy rs)
   old-ended = ended (seenBy rs) (ap endFault (sym old-seen) ∙ passes list passing .ended)
 
-  pub mask-is : hasMask list ≡ ofKind (λ k. eqb k 5) rs
+  mask-is : hasMask list ≡ ofKind (λ k. eqb k 5) rs
   unfolding hasMask has recordsIn
   mask-is = sym (any-map (λ (q : Record). eqb (q .kind) 5) (λ (p : Placed). p .it) (records list))
 

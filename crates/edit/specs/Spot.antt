@@ -2,18 +2,18 @@
 -- its writing.
 use mathlib.Core.Path.{_≡_}
 use mathlib.Core.List.{List, [], _∷_, _++_}
-use mathlib.Core.Bool.{Bool, not, _&&_}
+use mathlib.Core.Bool.{Bool, true, not, _&&_}
 use Prim.Native.Nat.{ℕ, _+_, _≤_}
 use lib.Dec.{eqb, leb, ltb}
 use lib.ListN.{length, take, drop}
 use Rattle.words.specs.Test.{if_then_else_, anyOf, those}
 use Rattle.words.specs.Said.{Said, done, refused}
 use Rattle.words.specs.Realm.{realmAt}
-use Rattle.list.specs.Kind.{wantsMask}
+use Rattle.list.specs.Kind.{size, wantsMask}
 use Rattle.list.specs.Fault.{rises, isForbidden, lacksControl}
 use Rattle.list.specs.Checking.{records, has}
 use Rattle.list.specs.declared.records.Record.{Record}
-use Rattle.edit.specs.Entry.{InWidth, recordFor}
+use Rattle.edit.specs.Entry.{InWidth, isEntry, recordFor}
 use Rattle.edit.specs.Spelling.{spell}
 use Rattle.edit.specs.Editing.{recordsIn, sameEntry, roomSays, left, editedSays}
 use Rattle.edit.specs.declared.entry.Entry.{Entry}
@@ -25,6 +25,8 @@ use Rattle.edit.specs.declared.spot.Spot.{Spot}
 -- the record that an entry says
 pub record Says (entry : Entry) (r : Record) : Type 0 where
   pub is-record : r ≡ recordFor entry
+  pub is-entry : isEntry (r .kind) ≡ true
+  pub sized : r .size ≡ size (r .kind)
   pub short : r .size ≤ 22
   pub numbers : InWidth entry
 

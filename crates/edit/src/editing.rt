@@ -26,6 +26,7 @@ pub enum Edited {
     RefusedAt { number: u8, place: usize },
 }
 
+// Into a list that passed.
 fn put_checked(list: &[u8], entry: Entry, out: &mut [u8]) -> Edited
     requires { ⌜ checkSays (now list) ≡ done [] ⌝ }
     ensures { λ r. ⌜ Puts (now (list .entry)) entry (now (out .entry)) r (now (out .exit)) ⌝ }
@@ -48,6 +49,7 @@ fn put_checked(list: &[u8], entry: Entry, out: &mut [u8]) -> Edited
     }
 }
 
+// From a list that passed.
 fn drop_checked(list: &[u8], entry: Entry, out: &mut [u8]) -> Edited
     requires { ⌜ checkSays (now list) ≡ done [] ⌝ }
     ensures { λ r. ⌜ Drops (now (list .entry)) entry (now (out .entry)) r (now (out .exit)) ⌝ }

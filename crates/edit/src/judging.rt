@@ -1,6 +1,7 @@
 // The verdict on a new list, before a byte of it is written.
 use crate::spot::has_mask;
 use evaluate::Verdict;
+use list::LONGEST;
 use list::Record;
 use list::is_forbidden;
 use list::kind::ANY_OTHER;
@@ -22,8 +23,6 @@ ghost use Rattle.list.specs.Kind.{wantsMask};
 ghost use Rattle.list.specs.Checking.{checkSays};
 ghost use Rattle.evaluate.specs.Evaluation.{verdictSays};
 ghost use Rattle.edit.specs.Spot.{hasMask, putVerdict, dropVerdict};
-
-const LONGEST: usize = 4096;
 
 // A record that wants a mask_obj, and no mask_obj.
 fn lacks_mask(list: &[u8], kind: u8) -> bool

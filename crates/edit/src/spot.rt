@@ -52,6 +52,7 @@ fn head_of(tail: &[u8]) -> Record
     })
 }
 
+// A record's length.
 fn size_of(kind: u8) -> usize
     requires { ⌜ isEntry kind ≡ true ⌝ }
     ensures { λ r. ⌜ r ≡ size kind ⌝ }
@@ -81,6 +82,7 @@ fn side_of(tail: &[u8], r: Record) -> Side
     Side::Same
 }
 
+// The spot of r in a list that passed.
 pub(crate) fn find(list: &[u8], r: Record) -> Spot
     requires { ⌜ (checkSays (now list) ≡ done []) × (1 < r .kind) ⌝ }
     ensures { λ s. ⌜ Finds (now (list .entry)) r s ⌝ }
@@ -105,6 +107,7 @@ pub(crate) fn find(list: &[u8], r: Record) -> Spot
     Spot { at: at, size: 0 }
 }
 
+// A list that passed has a mask_obj.
 pub(crate) fn has_mask(list: &[u8]) -> bool
     requires { ⌜ checkSays (now list) ≡ done [] ⌝ }
     ensures { λ b. ⌜ b ≡ hasMask (now (list .entry)) ⌝ }

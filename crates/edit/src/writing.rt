@@ -29,6 +29,7 @@ fn copy_to(out: &mut [u8], at: usize, piece: &[u8])
     copy(piece, &mut out[at..]);
 }
 
+// The realm of a body that has one of n bytes.
 fn write_realm_in(out: &mut [u8], at: usize, n: usize, realm: Realm)
     ensures { λ _. ⌜ now (out .exit) ≡ written at (partOf n (realmBytes realm)) (now (out .entry)) ⌝ }
 {
@@ -37,6 +38,7 @@ fn write_realm_in(out: &mut [u8], at: usize, n: usize, realm: Realm)
     }
 }
 
+// The id of a body that has one of n bytes.
 fn write_id_in(out: &mut [u8], at: usize, n: usize, id: u32)
     ensures { λ _. ⌜ now (out .exit) ≡ written at (partOf n (digits 4 id)) (now (out .entry)) ⌝ }
 {

@@ -48,7 +48,7 @@ unfolding bodyOf bodies
 beyond k h = List·getD-eq-default bodies (body 0 0 0) h
 
 -- what holds of every body of the table, and of none, holds of every kind's
-pub everywhere : (test : Body → Bool) → everyBelow 12 (λ k. test (bodyOf k)) ≡ true → test (body 0 0 0) ≡ true
+everywhere : (test : Body → Bool) → everyBelow 12 (λ k. test (bodyOf k)) ≡ true → test (body 0 0 0) ≡ true
     → (k : ℕ) → test (bodyOf k) ≡ true
 everywhere test t none k = go (ltb k 12) refl
   where

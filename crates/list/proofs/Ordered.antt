@@ -64,7 +64,7 @@ pub alike-before : (a b c : Record) → Alike a b → rises a c ≡ rises b c
 unfolding rises
 alike-before a b c s = rw (s .kind, s .realm, s .id)
 
-pub alike-after : (a b c : Record) → Alike a b → rises c a ≡ rises c b
+alike-after : (a b c : Record) → Alike a b → rises c a ≡ rises c b
 unfolding rises
 alike-after a b c s = rw (s .kind, s .realm, s .id)
 

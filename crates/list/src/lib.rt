@@ -11,5 +11,6 @@ pub use faults::lacks_control;
 pub use records::Read;
 pub use records::Record;
 pub use records::read_record;
+pub use walk::LONGEST;
 pub use walk::Step;
 pub use walk::Walk;

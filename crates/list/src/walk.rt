@@ -23,7 +23,8 @@ ghost use Rattle.list.specs.Walking.{seenOf, walkAfter, refusedOr, heard
 ghost use Rattle.list.specs.declared.records.Read.the-variants.{Whole};
 ghost use Rattle.list.specs.declared.walk.Step.the-variants.{End};
 
-const LONGEST: usize = 4096;
+// A list is at most so many bytes.
+pub const LONGEST: usize = 4096;
 
 // Where the next record begins, the default realm, the record before, and the marks of all so far.
 pub struct Walk {

@@ -115,7 +115,7 @@ stored bytes at n h k =
     rw (a, b, e, f, g) (sets-eq (n / 16777216 ∷ n / 65536 % 256 ∷ n / 256 % 256 ∷ n % 256 ∷ []) bytes at h)
 
 -- a number by its two halves
-pub in-halves : (n : ℕ) → digits 4 (n / 4294967296) ++ digits 4 (n % 4294967296) ≡ digits 8 n
+in-halves : (n : ℕ) → digits 4 (n / 4294967296) ++ digits 4 (n % 4294967296) ≡ digits 8 n
 unfolding digits
 in-halves n =
     let q : n / 4294967296 ≡ n / 256 / 256 / 256 / 256 = omega arith in
@@ -138,7 +138,7 @@ stored-realm bytes at realm h =
     over-next at 8 (digits 8 (realm .hi)) (digits 8 (realm .lo)) bytes (digits-length 8 (realm .hi)) (omega arith)
 
 -- a piece between others
-pub part-between : (pre xs post : List ℕ) (at n : ℕ) → length pre ≡ at → length xs ≡ n → part at n (pre ++ (xs ++ post)) ≡ xs
+part-between : (pre xs post : List ℕ) (at n : ℕ) → length pre ≡ at → length xs ≡ n → part at n (pre ++ (xs ++ post)) ≡ xs
 part-between pre xs post at n h k = rw (drop-at pre (xs ++ post) at h, take-at xs post n k)
 
 ends-inside : (pre xs post : List ℕ) (at n : ℕ) → length pre ≡ at → length xs ≡ n → at + n ≤ length (pre ++ (xs ++ post))

@@ -1,3 +1,4 @@
+use mathlib.Core.Path.{refl}
 use native.Mathlib.Omega.{arith}
 use borrow.Author.Needs.{needs}
 use Rattle.edit.specs.Entry.{recordFor}
@@ -16,4 +17,4 @@ record-of-spec =
     (λ c κs. search needs)
     (λ c. search needs)
     (λ c. search needs)
-    (λ c. let k = c .before .before .before .before .args .entry .kind in record { is-record = simp (c .id-if .ensures, c .before .realm-if .ensures, c .before .before .id-length .ensures .0, c .before .before .before .realm-length .ensures .0, size-is k (c .before .before .before .before .pre)); short = omega arith; numbers = record { hi = omega arith; lo = omega arith; id = omega arith } }))
+    (λ c. let k = c .before .before .before .before .args .entry .kind in let s = size-is k (c .before .before .before .before .pre) in let realm = c .before .before .before .realm-length .ensures .0 in let id = c .before .before .id-length .ensures .0 in record { is-record = simp (c .id-if .ensures, c .before .realm-if .ensures, id, realm, s); is-entry = c .before .before .before .before .pre; sized = rw (s, ← realm, ← id) refl; short = omega arith; numbers = record { hi = omega arith; lo = omega arith; id = omega arith } }))

@@ -5,7 +5,7 @@ use native.Mathlib.Omega.{arith}
 use borrow.Author.Needs.{needs}
 use borrow.Rule.Slice.PartAt.{part-to-end}
 use Rattle.edit.specs.Spot.{splice}
-use Rattle.edit.proofs.Outcomes.{no-room, room, length-is, without-piece}
+use Rattle.edit.proofs.Spliced.{no-room, room, length-is, without-piece}
 use Rattle.edit.proofs.writing.write_drop.Statement.{statement}
 use Rattle.edit.proofs.writing.write_drop.Tie as tie
 

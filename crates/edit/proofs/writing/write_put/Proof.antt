@@ -5,7 +5,7 @@ use borrow.Rule.Slice.PartAt.{part-to-end}
 use Rattle.edit.specs.Spot.{splice}
 use Rattle.edit.specs.Spelling.{spelled}
 use Rattle.edit.proofs.Spelled.{spelled-length}
-use Rattle.edit.proofs.Outcomes.{no-room, room, length-is, piecewise}
+use Rattle.edit.proofs.Spliced.{no-room, room, length-is, piecewise}
 use Rattle.edit.proofs.writing.write_put.Statement.{statement}
 use Rattle.edit.proofs.writing.write_put.Tie as tie
 
