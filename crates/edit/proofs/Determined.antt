@@ -1,29 +1,22 @@
 -- Two outcomes that meet a statement are equal. Assumes nothing.
 use mathlib.Core.Path.{_≡_, refl, sym, _∙_}
-use mathlib.Core.List.{List, [], _∷_}
+use mathlib.Core.List.{List}
 use Prim.Native.Nat.{ℕ}
-use lib.ListN.{getD}
-use Rattle.words.specs.Said.{Said, done, refused}
-use Rattle.words.proofs.Determined.{same-answer}
+use Rattle.words.specs.Said.{Said}
+use Rattle.words.proofs.Determined.{same-answer, unsaid}
 use Rattle.edit.specs.Editing.{editedSays, Puts, Drops}
 use Rattle.edit.specs.declared.entry.Entry.{Entry}
 use Rattle.edit.specs.declared.editing.Edited.{Edited}
 use Rattle.edit.specs.declared.editing.Edited.the-variants.{Length, Refused, RefusedAt}
 
--- the answer that says what was said
-unsaid : Said → Edited
-unsaid (done values) = Length (getD values 0 0)
-unsaid (refused number []) = Refused number
-unsaid (refused number (place ∷ more)) = RefusedAt number place
-
-unsaid-said : (r : Edited) → unsaid (editedSays r) ≡ r
+unsaid-said : (r : Edited) → unsaid Length Refused RefusedAt (editedSays r) ≡ r
 unfolding unsaid editedSays
 unsaid-said (Length n) = refl
 unsaid-said (Refused number) = refl
 unsaid-said (RefusedAt number place) = refl
 
 pub same-edited : {said : Said} (r r′ : Edited) → editedSays r ≡ said → editedSays r′ ≡ said → r ≡ r′
-same-edited r r′ p q = same-answer editedSays unsaid unsaid-said r r′ p q
+same-edited r r′ p q = same-answer editedSays (unsaid Length Refused RefusedAt) unsaid-said r r′ p q
 
 module _ (list : List ℕ) (entry : Entry) (out : List ℕ) (r r′ : Edited) (after after′ : List ℕ) where
   pub put-entry-determined : Puts list entry out r after → Puts list entry out r′ after′ → (r ≡ r′) × (after ≡ after′)

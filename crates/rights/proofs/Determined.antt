@@ -1,11 +1,10 @@
 -- Two outcomes that meet a statement are equal. Assumes nothing.
 use mathlib.Core.Path.{_≡_, refl, sym, _∙_, ap}
-use mathlib.Core.List.{List, [], _∷_}
+use mathlib.Core.List.{List}
 use Prim.Native.Nat.{ℕ}
 use denote.Ref.{RefT, now, ptr}
-use lib.ListN.{getD}
-use Rattle.words.specs.Said.{Said, done, refused}
-use Rattle.words.proofs.Determined.{same-answer}
+use Rattle.words.specs.Said.{Said}
+use Rattle.words.proofs.Determined.{same-answer, unsaid}
 use Rattle.evaluate.specs.Evaluation.{Decided}
 use Rattle.rights.specs.Deciding.{answerSays, Finds, Decides}
 use Rattle.rights.specs.declared.answer.Answer.{Answer}
@@ -13,20 +12,14 @@ use Rattle.rights.specs.declared.answer.Answer.the-variants.{Rights, Ref
 use Rattle.rights.specs.declared.answer.Found.{Found}
 use Rattle.rights.specs.declared.decision.Decision.{Decision}
 
--- the answer that says what was said
-unsaid : Said → Answer
-unsaid (done values) = Rights (getD values 0 0)
-unsaid (refused number []) = Refused number
-unsaid (refused number (place ∷ more)) = RefusedAt number place
-
-unsaid-said : (r : Answer) → unsaid (answerSays r) ≡ r
+unsaid-said : (r : Answer) → unsaid Rights Refused RefusedAt (answerSays r) ≡ r
 unfolding unsaid answerSays
 unsaid-said (Rights rights) = refl
 unsaid-said (Refused number) = refl
 unsaid-said (RefusedAt number place) = refl
 
 same : {said : Said} (r r′ : Answer) → answerSays r ≡ said → answerSays r′ ≡ said → r ≡ r′
-same r r′ p q = same-answer answerSays unsaid unsaid-said r r′ p q
+same r r′ p q = same-answer answerSays (unsaid Rights Refused RefusedAt) unsaid-said r r′ p q
 
 abbrev found : Answer → ℕ → ℕ → Found
 found answer start size = record { answer = answer; start = start; size = size }

@@ -1,8 +1,10 @@
 -- Two outcomes that meet a statement are equal. Assumes nothing.
 use mathlib.Core.Path.{_≡_, sym, _∙_, ap}
 use mathlib.Core.Bool.{Bool}
-use mathlib.Core.List.{List}
+use mathlib.Core.List.{List, [], _∷_}
 use Prim.Native.Nat.{ℕ}
+use lib.ListN.{getD}
+use Rattle.words.specs.Said.{Said, done, refused}
 use Rattle.words.specs.Number.{ReadsNumber}
 use Rattle.words.specs.Writing.{WritesNumber}
 use Rattle.words.specs.Realm.{ReadsRealm, WritesRealm, TellsRealms, TellsUnknown}
@@ -12,6 +14,13 @@ use Rattle.words.specs.declared.realm.Realm.{Realm}
 pub same-answer : {R S : Type 0} (saying : R → S) (back : S → R) → ((r : R) → back (saying r) ≡ r)
     → {said : S} (r r′ : R) → saying r ≡ said → saying r′ ≡ said → r ≡ r′
 same-answer saying back inverse r r′ p q = sym (inverse r) ∙ ap back (p ∙ sym q) ∙ inverse r′
+
+-- an answer by what it says: a value, or a refusal without a place or with one
+module _ {R : Type 0} (value plain : ℕ → R) (placed : ℕ → ℕ → R) where
+  unfoldable pub unsaid : Said → R
+  unsaid (done values) = value (getD values 0 0)
+  unsaid (refused number []) = plain number
+  unsaid (refused number (place ∷ more)) = placed number place
 
 pub number32-determined : (bytes : List ℕ) (at r r′ : ℕ) → ReadsNumber 4 bytes at r → ReadsNumber 4 bytes at r′ → r ≡ r′
 number32-determined bytes at r r′ p q = p .answer ∙ sym (q .answer)
