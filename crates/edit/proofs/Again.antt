@@ -12,9 +12,10 @@ use Rattle.list.specs.Fault.{noRecord, rises}
 use Rattle.list.specs.Checking.{checkSays}
 use Rattle.list.specs.declared.records.Record.{Record}
 use Rattle.list.proofs.Ordered.{rises-asym, Alike, alike-not}
-use Rattle.edit.specs.Entry.{InWidth, isEntry, recordFor}
+use Rattle.edit.specs.Entry.{isEntry, recordFor}
 use Rattle.edit.specs.Spelling.{spell}
 use Rattle.edit.specs.Editing.{recordsIn, sameEntry, putIn, dropFrom, putting, dropping, hasEntry}
+use Rattle.edit.specs.Spot.{InWidth}
 use Rattle.edit.specs.declared.entry.Entry.{Entry}
 use Rattle.edit.proofs.Lengths.{is-above}
 use Rattle.edit.proofs.Spelled.{Fitting}

@@ -18,10 +18,10 @@ use Rattle.list.specs.Fault.{noRecord}
 use Rattle.list.specs.Checking.{checkSays}
 use Rattle.list.specs.declared.records.Record.{Record}
 use Rattle.list.proofs.Passed.{passes}
-use Rattle.edit.specs.Entry.{InWidth, isEntry, recordFor}
+use Rattle.edit.specs.Entry.{isEntry, recordFor}
 use Rattle.edit.specs.Spelling.{spelled, spell}
 use Rattle.edit.specs.Editing.{recordsIn, sameEntry, putting, dropping, hasEntry}
-use Rattle.edit.specs.Spot.{Says, Finds, putVerdict, dropVerdict, splice}
+use Rattle.edit.specs.Spot.{InWidth, Says, Finds, putVerdict, dropVerdict, splice}
 use Rattle.edit.specs.declared.entry.Entry.{Entry}
 use Rattle.edit.specs.declared.spot.Spot.{Spot}
 use Rattle.edit.proofs.Lengths.{is-above, is-known, rights-is}

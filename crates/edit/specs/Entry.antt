@@ -1,18 +1,12 @@
 -- The entry of an edit: kind, realm, id and rights byte, given as numbers.
 use mathlib.Core.Bool.{Bool, _&&_}
-use Prim.Native.Nat.{ℕ, _^_, _<_}
+use Prim.Native.Nat.{ℕ}
 use lib.Dec.{eqb, leb}
 use Rattle.words.specs.Test.{if_then_else_}
 use Rattle.words.specs.Realm.{zeroRealm}
 use Rattle.list.specs.Kind.{bodyOf, size}
 use Rattle.list.specs.declared.records.Record.{Record}
 use Rattle.edit.specs.declared.entry.Entry.{Entry}
-
--- what the numbers of an entry always are: a realm of sixteen bytes, an id of four
-pub record InWidth (entry : Entry) : Type 0 where
-  pub hi : entry .realm .hi < 256 ^ 8
-  pub lo : entry .realm .lo < 256 ^ 8
-  pub id : entry .id < 256 ^ 4
 
 -- the kinds 2 to 11
 unfoldable pub isEntry : ℕ → Bool

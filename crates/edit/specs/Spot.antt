@@ -3,7 +3,7 @@
 use mathlib.Core.Path.{_≡_}
 use mathlib.Core.List.{List, [], _∷_, _++_}
 use mathlib.Core.Bool.{Bool, true, not, _&&_}
-use Prim.Native.Nat.{ℕ, _+_, _≤_}
+use Prim.Native.Nat.{ℕ, _+_, _^_, _≤_, _<_}
 use lib.Dec.{eqb, leb, ltb}
 use lib.ListN.{length, take, drop}
 use Rattle.words.specs.Test.{if_then_else_, anyOf, those}
@@ -13,7 +13,7 @@ use Rattle.list.specs.Kind.{size, wantsMask}
 use Rattle.list.specs.Fault.{rises, isForbidden, lacksControl}
 use Rattle.list.specs.Checking.{records, has}
 use Rattle.list.specs.declared.records.Record.{Record}
-use Rattle.edit.specs.Entry.{InWidth, isEntry, recordFor}
+use Rattle.edit.specs.Entry.{isEntry, recordFor}
 use Rattle.edit.specs.Spelling.{spell}
 use Rattle.edit.specs.Editing.{recordsIn, sameEntry, roomSays, left, editedSays}
 use Rattle.edit.specs.declared.entry.Entry.{Entry}
@@ -21,6 +21,12 @@ use Rattle.edit.specs.declared.editing.Edited.{Edited}
 use Rattle.edit.specs.declared.spot.Side.{Side}
 use Rattle.edit.specs.declared.spot.Side.the-variants.{Before, Same, After}
 use Rattle.edit.specs.declared.spot.Spot.{Spot}
+
+-- what the numbers of an entry always are: a realm of sixteen bytes, an id of four
+pub record InWidth (entry : Entry) : Type 0 where
+  pub hi : entry .realm .hi < 256 ^ 8
+  pub lo : entry .realm .lo < 256 ^ 8
+  pub id : entry .id < 256 ^ 4
 
 -- the record that an entry says
 pub record Says (entry : Entry) (r : Record) : Type 0 where

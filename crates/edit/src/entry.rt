@@ -74,6 +74,7 @@ fn id_if(length: usize, id: u32) -> u32
     id
 }
 
+// The record that an entry says.
 pub(crate) fn record_of(entry: Entry) -> Record
     requires { ⌜ isEntry (entry .kind) ≡ true ⌝ }
     ensures { λ r. ⌜ Says entry r ⌝ }
