@@ -2,11 +2,21 @@
 use mathlib.Core.Path.{_≡_, refl, sym, _∙_}
 use mathlib.Core.Bool.{Bool, true, false, _||_, _&&_}
 use Prim.Native.Nat.{ℕ, zero, suc, _/_, _%_, _^_, _≤_, min}
+use native.Mathlib.Nat.{pow-suc, mul-comm, div-div-eq-div-mul}
 use native.Mathlib.Omega.{arith}
 use borrow.Author.Tests.{eqb-true, eqb-false, eq-eqb, ne-eqb}
 use lib.Bits.{bitAnd, bitOr, and-zero-l, and-step, or-step, and-shr, or-shr}
 use lib.Dec.{eqb}
 use Rattle.words.specs.Bit.{bit}
+
+-- the lowest bit, and the others by half the number
+pub bit-first : (n : ℕ) → bit 0 n ≡ eqb (n % 2) 1
+unfolding bit
+bit-first n = let e : n / 2 ^ 0 ≡ n = omega arith in rw e
+
+pub bit-next : (i n : ℕ) → bit (suc i) n ≡ bit i (n / 2)
+unfolding bit
+bit-next i n = let e : n / 2 ^ suc i ≡ n / 2 / 2 ^ i = rw (pow-suc, mul-comm (2 ^ i) 2) (sym (div-div-eq-div-mul n 2 (2 ^ i))) in rw e
 
 lowest : (a b : ℕ) → eqb (bitOr a b % 2) 1 ≡ (eqb (a % 2) 1 || eqb (b % 2) 1)
 lowest a b = go (eqb (a % 2) 1) (eqb (b % 2) 1) refl refl

@@ -22,8 +22,9 @@ module _ {R : Type 0} (value plain : ℕ → R) (placed : ℕ → ℕ → R) whe
   unsaid (refused number []) = plain number
   unsaid (refused number (place ∷ more)) = placed number place
 
-pub number32-determined : (bytes : List ℕ) (at r r′ : ℕ) → ReadsNumber 4 bytes at r → ReadsNumber 4 bytes at r′ → r ≡ r′
-number32-determined bytes at r r′ p q = p .answer ∙ sym (q .answer)
+-- number16, number32 and number64
+pub number-determined : (width : ℕ) (bytes : List ℕ) (at r r′ : ℕ) → ReadsNumber width bytes at r → ReadsNumber width bytes at r′ → r ≡ r′
+number-determined width bytes at r r′ p q = p .answer ∙ sym (q .answer)
 
 pub realm-at-determined : (bytes : List ℕ) (at : ℕ) (r r′ : Realm) → ReadsRealm bytes at r → ReadsRealm bytes at r′ → r ≡ r′
 realm-at-determined bytes at r r′ p q = p .answer ∙ sym (q .answer)
@@ -34,9 +35,10 @@ same-realm-determined a b r r′ p q = p .answer ∙ sym (q .answer)
 pub is-unknown-determined : (realm : Realm) (r r′ : Bool) → TellsUnknown realm r → TellsUnknown realm r′ → r ≡ r′
 is-unknown-determined realm r r′ p q = p .answer ∙ sym (q .answer)
 
-pub write-number32-determined : (n : ℕ) (bytes : List ℕ) (at : ℕ) (after after′ : List ℕ)
-    → WritesNumber 4 n bytes at after → WritesNumber 4 n bytes at after′ → after ≡ after′
-write-number32-determined n bytes at after after′ p q = p .bytes-after ∙ sym (q .bytes-after)
+-- write_number16, write_number32 and write_number64
+pub write-number-determined : (width n : ℕ) (bytes : List ℕ) (at : ℕ) (after after′ : List ℕ)
+    → WritesNumber width n bytes at after → WritesNumber width n bytes at after′ → after ≡ after′
+write-number-determined width n bytes at after after′ p q = p .bytes-after ∙ sym (q .bytes-after)
 
 pub write-realm-determined : (realm : Realm) (bytes : List ℕ) (at : ℕ) (after after′ : List ℕ)
     → WritesRealm realm bytes at after → WritesRealm realm bytes at after′ → after ≡ after′

@@ -52,7 +52,14 @@ part-add at m n s = simp (take-add, drop-drop)
 part-cons : (at n : ℕ) (s : List ℕ) → at < length s → part at (suc n) s ≡ getD s at 0 ∷ part (at + 1) n s
 part-cons at n s h = rw (drop-cons s at 0 h, add-one)
 
--- four bytes, one by one
+-- two bytes, and four, one by one
+pub two : (s : List ℕ) (at : ℕ) → at + 2 ≤ length s → number (part at 2 s) ≡ getD s at 0 * 256 + getD s (at + 1) 0
+unfolding numberFrom
+two s at h =
+    let a : at < length s = omega arith in
+    let b : at + 1 < length s = omega arith in
+    rw (part-cons at 1 s a, part-cons (at + 1) 0 s b) (omega arith)
+
 pub four : (s : List ℕ) (at : ℕ) → at + 4 ≤ length s
     → number (part at 4 s) ≡ getD s at 0 * 16777216 + getD s (at + 1) 0 * 65536 + getD s (at + 2) 0 * 256 + getD s (at + 3) 0
 unfolding numberFrom

@@ -1,7 +1,8 @@
 -- Both parts of a test that passed, or failed; the elements that pass a test; what holds of each element. Assumes nothing.
-use mathlib.Core.Path.{_≡_, refl, ap}
+use mathlib.Core.Path.{_≡_, refl, sym, ap}
 use mathlib.Core.List.{List, [], _∷_, _++_, map}
 use mathlib.Core.Bool.{Bool, true, false, cond, _||_, _&&_}
+use mathlib.Core.Logic.{_⊎_, inl, inr}
 use Prim.Native.Nat.{ℕ}
 use native.Mathlib.Omega.{arith}
 use Rattle.words.specs.Test.{anyOf, those}
@@ -17,6 +18,28 @@ pub and-right : (a b : Bool) → (a && b) ≡ true → b ≡ true
 and-right true b t = t
 and-right false true t = refl
 and-right false false t = t
+
+pub and-both : (a b : Bool) → a ≡ true → b ≡ true → (a && b) ≡ true
+and-both a b p q = rw (p, q)
+
+pub or-one : (a b : Bool) → (a || b) ≡ true → (a ≡ true) ⊎ (b ≡ true)
+or-one true b t = inl refl
+or-one false b t = inr t
+
+pub one-or : (a b : Bool) → (a ≡ true) ⊎ (b ≡ true) → (a || b) ≡ true
+one-or a b (inl p) = rw p
+one-or true b (inr q) = refl
+one-or false b (inr q) = q
+
+-- two tests of which each passes where the other does
+pub same-test : (a b : Bool) → (a ≡ true → b ≡ true) → (b ≡ true → a ≡ true) → a ≡ b
+same-test true b f g = sym (f refl)
+same-test false true f g = g refl
+same-test false false f g = refl
+
+pub fails : (b : Bool) → (b ≡ true → ⊥) → b ≡ false
+fails true h = absurd (h refl)
+fails false h = refl
 
 pub or-left : (a b : Bool) → (a || b) ≡ false → a ≡ false
 or-left true b t = t

@@ -102,7 +102,14 @@ module _ {b : Bool} (at width : ℕ) (piece bytes : List ℕ) (l : length piece 
   unfolding written
   has-none t = simp (l, ← q, t)
 
--- four stores
+-- two stores, and four
+pub stored-two : (bytes : List ℕ) (at n : ℕ) → at + 2 ≤ length bytes → n < 65536 → set (set bytes at (n / 256)) (at + 1) (n % 256) ≡ over at (digits 2 n) bytes
+unfolding over digits
+stored-two bytes at n h k =
+    let a : n / 256 % 256 ≡ n / 256 = omega arith in
+    let e : at + 1 ≡ suc at = omega arith in
+    rw (a, e) (sets-eq (n / 256 ∷ n % 256 ∷ []) bytes at h)
+
 pub stored : (bytes : List ℕ) (at n : ℕ) → at + 4 ≤ length bytes → n < 4294967296
     → set (set (set (set bytes at (n / 16777216)) (at + 1) (n / 65536 % 256)) (at + 2) (n / 256 % 256)) (at + 3) (n % 256) ≡ over at (digits 4 n) bytes
 unfolding over digits

@@ -2,8 +2,12 @@
 mod number;
 mod realm;
 
+pub use number::number16;
 pub use number::number32;
+pub use number::number64;
+pub use number::write_number16;
 pub use number::write_number32;
+pub use number::write_number64;
 pub use realm::Realm;
 pub use realm::UNKNOWN_HI;
 pub use realm::is_unknown;

@@ -22,6 +22,13 @@ pub(crate) fn holds(bytes: &[u8], at: usize, width: usize) -> bool
     at <= n - width
 }
 
+fn whole16(bytes: &[u8], at: usize) -> u16
+    requires { ⌜ at + 2 ≤ length (now bytes) ⌝ }
+    ensures { λ r. ⌜ r ≡ number (part at 2 (now (bytes .entry))) ⌝ }
+{
+    (wide(bytes[at]) * 256 + wide(bytes[at + 1])) as u16
+}
+
 fn whole32(bytes: &[u8], at: usize) -> u32
     requires { ⌜ at + 4 ≤ length (now bytes) ⌝ }
     ensures { λ r. ⌜ (r ≡ number (part at 4 (now (bytes .entry)))) × (r < 4294967296) ⌝ }
@@ -40,7 +47,18 @@ pub(crate) fn whole64(bytes: &[u8], at: usize) -> u64
     (whole32(bytes, at) as u64) * 4294967296 + (whole32(bytes, at + 4) as u64)
 }
 
-// The number of the four bytes at a place; 0 where they are not all there.
+// The number of the two bytes at a place; 0 where they are not all there.
+pub fn number16(bytes: &[u8], at: usize) -> u16
+    ensures { λ r. ⌜ ReadsNumber 2 (now (bytes .entry)) at r ⌝ }
+{
+    if holds(bytes, at, 2) {
+        whole16(bytes, at)
+    } else {
+        0
+    }
+}
+
+// The same of four bytes.
 pub fn number32(bytes: &[u8], at: usize) -> u32
     ensures { λ r. ⌜ ReadsNumber 4 (now (bytes .entry)) at r ⌝ }
 {
@@ -49,6 +67,25 @@ pub fn number32(bytes: &[u8], at: usize) -> u32
     } else {
         0
     }
+}
+
+// The same of eight bytes.
+pub fn number64(bytes: &[u8], at: usize) -> u64
+    ensures { λ r. ⌜ ReadsNumber 8 (now (bytes .entry)) at r ⌝ }
+{
+    if holds(bytes, at, 8) {
+        whole64(bytes, at)
+    } else {
+        0
+    }
+}
+
+fn store16(bytes: &mut [u8], at: usize, n: u16)
+    requires { ⌜ at + 2 ≤ length (now bytes) ⌝ }
+    ensures { λ _. ⌜ now (bytes .exit) ≡ over at (digits 2 n) (now (bytes .entry)) ⌝ }
+{
+    bytes[at] = (n / 256) as u8;
+    bytes[at + 1] = (n % 256) as u8;
 }
 
 fn store32(bytes: &mut [u8], at: usize, n: u32)
@@ -69,11 +106,29 @@ pub(crate) fn store64(bytes: &mut [u8], at: usize, n: u64)
     store32(bytes, at + 4, (n % 4294967296) as u32);
 }
 
-// The four bytes of a number at a place; nothing is written where they have no room.
+// The two bytes of a number at a place; nothing is written where they have no room.
+pub fn write_number16(bytes: &mut [u8], at: usize, n: u16)
+    ensures { λ _. ⌜ WritesNumber 2 n (now (bytes .entry)) at (now (bytes .exit)) ⌝ }
+{
+    if holds(bytes, at, 2) {
+        store16(bytes, at, n);
+    }
+}
+
+// The same of four bytes.
 pub fn write_number32(bytes: &mut [u8], at: usize, n: u32)
     ensures { λ _. ⌜ WritesNumber 4 n (now (bytes .entry)) at (now (bytes .exit)) ⌝ }
 {
     if holds(bytes, at, 4) {
         store32(bytes, at, n);
+    }
+}
+
+// The same of eight bytes.
+pub fn write_number64(bytes: &mut [u8], at: usize, n: u64)
+    ensures { λ _. ⌜ WritesNumber 8 n (now (bytes .entry)) at (now (bytes .exit)) ⌝ }
+{
+    if holds(bytes, at, 8) {
+        store64(bytes, at, n);
     }
 }

@@ -1,0 +1,4 @@
+pub mod Sets
+pub mod Sentence
+pub mod Symmetry
+pub mod Masks

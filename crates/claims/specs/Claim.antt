@@ -1,0 +1,22 @@
+-- What a token or a request claims: types, host, file, first and last byte.
+use mathlib.Core.Path.{_≡_}
+use mathlib.Core.Bool.{Bool, _||_}
+use Prim.Native.Nat.{ℕ}
+use lib.Dec.{eqb, ltb}
+use Rattle.claims.specs.declared.claim.Claim.{Claim}
+
+-- host 0, types 0 or above the limit
+unfoldable pub unfit : ℕ → ℕ → ℕ → Bool
+unfit host types limit = eqb host 0 || eqb types 0 || ltb limit types
+
+-- refusal 31: that, or first above last
+unfoldable pub malformed : Claim → ℕ → Bool
+malformed claim limit = unfit (claim .host) (claim .types) limit || ltb (claim .last) (claim .first)
+
+-- telling whether a host or types are unfit
+pub record TellsUnfit (host types limit : ℕ) (r : Bool) : Type 0 where
+  pub answer : r ≡ unfit host types limit
+
+-- telling whether a claim is malformed
+pub record TellsMalformed (claim : Claim) (limit : ℕ) (r : Bool) : Type 0 where
+  pub answer : r ≡ malformed claim limit

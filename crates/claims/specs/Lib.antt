@@ -1,0 +1,4 @@
+pub mod Types
+pub mod Claim
+pub mod Rule
+pub mod Mask
