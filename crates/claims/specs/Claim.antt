@@ -5,6 +5,10 @@ use Prim.Native.Nat.{ℕ}
 use lib.Dec.{eqb, ltb}
 use Rattle.claims.specs.declared.claim.Claim.{Claim}
 
+-- the same claim with other types
+abbrev pub withTypes : Claim → ℕ → Claim
+withTypes claim types = record { types = types; host = claim .host; file = claim .file; first = claim .first; last = claim .last }
+
 -- host 0, types 0 or above the limit
 unfoldable pub unfit : ℕ → ℕ → ℕ → Bool
 unfit host types limit = eqb host 0 || eqb types 0 || ltb limit types

@@ -1,7 +1,8 @@
 -- Sets of types, as numbers: type i is in a set where bit i is 1.
-use mathlib.Core.Bool.{Bool, false, _||_}
+use mathlib.Core.Bool.{Bool, false, not, _||_, _&&_}
 use Prim.Native.Nat.{ℕ, zero, suc, _+_, _*_}
 use Rattle.words.specs.Test.{if_then_else_}
+use Rattle.words.specs.Bit.{bit}
 
 -- how many types there are: bit 1 is type 0, data read; bit 128 is type 7, open exclusive
 abbrev pub kinds : ℕ
@@ -23,3 +24,11 @@ typesWhere test = setBelow kinds test
 
 abbrev pub someType : (ℕ → Bool) → Bool
 someType test = someBelow kinds test
+
+-- a set without the types of another
+unfoldable pub without : ℕ → ℕ → ℕ
+without held types = typesWhere (λ i. bit i held && not (bit i types))
+
+-- some of the types are not in the set
+unfoldable pub lacks : ℕ → ℕ → Bool
+lacks held types = someType (λ i. bit i types && not (bit i held))

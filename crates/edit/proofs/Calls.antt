@@ -9,12 +9,12 @@ use lib.Dec.{ltb}
 use lib.ListN.{length, take, drop}
 use lib.Seq.{take-at}
 use Rattle.words.specs.Test.{if_then_else_}
-use Rattle.words.specs.Said.{Said, done, refused, andThen}
+use Rattle.words.specs.Said.{Said, done, refused, andThen, left}
 use Rattle.words.specs.Number.{Bytes}
 use Rattle.list.specs.Checking.{checkSays}
 use Rattle.list.proofs.Passed.{no-values}
 use Rattle.edit.specs.Entry.{isEntry}
-use Rattle.edit.specs.Editing.{putting, dropping, hasEntry, roomSays, newSays, putSays, dropSays, left, editedSays, Puts, Drops}
+use Rattle.edit.specs.Editing.{putting, dropping, hasEntry, roomSays, newSays, putSays, dropSays, editedSays, Puts, Drops}
 use Rattle.edit.specs.Spot.{InWidth}
 use Rattle.edit.specs.declared.entry.Entry.{Entry}
 use Rattle.edit.specs.declared.editing.Edited.{Edited}

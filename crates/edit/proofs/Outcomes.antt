@@ -7,7 +7,7 @@ use Prim.Native.Nat.{ℕ, _+_, _≤_, _<_}
 use borrow.Author.Tests.{ltb-false, lt-ltb, not-true}
 use lib.Dec.{ltb}
 use lib.ListN.{length, drop}
-use Rattle.words.specs.Said.{Said, done, refused, andThen}
+use Rattle.words.specs.Said.{Said, done, refused, andThen, left}
 use Rattle.list.specs.Kind.{size}
 use Rattle.list.specs.Checking.{checkSays}
 use Rattle.list.specs.declared.records.Record.{Record}
@@ -17,7 +17,7 @@ use Rattle.evaluate.specs.declared.verdict.Verdict.{Verdict}
 use Rattle.evaluate.specs.declared.verdict.Verdict.the-variants.{Fine, Refused as Faulty}
 use Rattle.edit.specs.Entry.{isEntry}
 use Rattle.edit.specs.Spelling.{spelled}
-use Rattle.edit.specs.Editing.{putting, dropping, hasEntry, newSays, putSays, dropSays, left, editedSays, Puts, Drops}
+use Rattle.edit.specs.Editing.{putting, dropping, hasEntry, newSays, putSays, dropSays, editedSays, Puts, Drops}
 use Rattle.edit.specs.Spot.{putVerdict, dropVerdict, splice, Writes}
 use Rattle.edit.specs.declared.entry.Entry.{Entry}
 use Rattle.edit.specs.declared.editing.Edited.{Edited}

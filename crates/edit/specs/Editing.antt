@@ -4,9 +4,9 @@ use mathlib.Core.List.{List, [], _∷_, _++_, map}
 use mathlib.Core.Bool.{Bool, not, _&&_}
 use Prim.Native.Nat.{ℕ}
 use lib.Dec.{eqb, ltb}
-use lib.ListN.{length, drop}
+use lib.ListN.{length}
 use Rattle.words.specs.Test.{if_then_else_, anyOf, those}
-use Rattle.words.specs.Said.{Said, done, refused, andThen}
+use Rattle.words.specs.Said.{Said, done, refused, andThen, left}
 use Rattle.words.specs.Realm.{sameRealm}
 use Rattle.list.specs.Fault.{rises}
 use Rattle.list.specs.Checking.{records, checkSays}
@@ -68,11 +68,6 @@ module _ (list : List ℕ) (entry : Entry) (out : List ℕ) where
       (if not (isEntry (entry .kind)) then refused 12 (0 ∷ []) else
       if not (hasEntry list entry) then refused 20 [] else
       newSays (dropping list entry) out)
-
--- the second buffer after an edit that says so: the new list, bytes past it stay; on refusal as it was
-unfoldable pub left : Said → List ℕ → List ℕ → List ℕ
-left (done values) new out = new ++ drop (length new) out
-left (refused number values) new out = out
 
 -- what each answer says by 01's numbers
 unfoldable pub editedSays : Edited → Said

@@ -7,7 +7,7 @@ use Prim.Native.Nat.{ℕ, _+_, _^_, _≤_, _<_}
 use lib.Dec.{eqb, leb, ltb}
 use lib.ListN.{length, take, drop}
 use Rattle.words.specs.Test.{if_then_else_, anyOf, those}
-use Rattle.words.specs.Said.{Said, done, refused}
+use Rattle.words.specs.Said.{Said, done, refused, left}
 use Rattle.words.specs.Realm.{realmAt}
 use Rattle.list.specs.Kind.{size, wantsMask}
 use Rattle.list.specs.Fault.{rises, isForbidden, lacksControl}
@@ -15,7 +15,7 @@ use Rattle.list.specs.Checking.{records, has}
 use Rattle.list.specs.declared.records.Record.{Record}
 use Rattle.edit.specs.Entry.{isEntry, recordFor}
 use Rattle.edit.specs.Spelling.{spell}
-use Rattle.edit.specs.Editing.{recordsIn, sameEntry, roomSays, left, editedSays}
+use Rattle.edit.specs.Editing.{recordsIn, sameEntry, roomSays, editedSays}
 use Rattle.edit.specs.declared.entry.Entry.{Entry}
 use Rattle.edit.specs.declared.editing.Edited.{Edited}
 use Rattle.edit.specs.declared.spot.Side.{Side}

@@ -1,16 +1,17 @@
 -- Numbers by their bytes: appended, bounded, and cut into parts. Assumes nothing.
 use mathlib.Core.Path.{_≡_, refl, sym, _∙_}
-use mathlib.Core.Bool.{Bool, true, false}
+use mathlib.Core.Bool.{Bool, true, false, cond, _&&_, and-true}
 use mathlib.Core.List.{List, [], _∷_, _++_}
 use Prim.Native.Nat.{ℕ, zero, suc, _+_, _*_, _^_, _-_, _≤_, _<_}
 use native.Mathlib.Nat.{pow-suc}
 use native.Mathlib.Numerals.{add-one}
 use native.Mathlib.Omega.{arith}
-use borrow.Author.Tests.{leb-true, leb-false, le-leb, lt-leb}
+use borrow.Author.Tests.{leb-true, leb-false, le-leb, lt-leb, eqb-true, eqb-false, eq-eqb, ne-eqb}
 use lib.Arith.{digits-lt}
-use lib.Dec.{leb}
+use lib.Dec.{leb, eqb}
 use lib.ListN.{length, getD, take, drop, length-take, length-drop}
 use lib.Seq.{take-add, drop-drop, drop-cons, getD-drop}
+use Rattle.words.specs.Test.{allOf}
 use Rattle.words.specs.Number.{Bytes, numberFrom, number, part, within}
 
 -- higher bytes first
@@ -33,6 +34,21 @@ unfolding numberFrom
 bounded [] h = omega arith
 bounded (b ∷ bs) h = rw (first b bs, pow-suc) (omega (arith, digits-lt (h 0) (bounded bs (λ i. h (suc i)))))
 
+-- a number is 0 where all its bytes are
+pub zero-number : (xs : List ℕ) → eqb (number xs) 0 ≡ allOf (λ b. eqb b 0) xs
+unfolding numberFrom allOf
+zero-number xs = from 0 xs
+  where
+    from : (n : ℕ) (xs : List ℕ) → eqb (numberFrom n xs) 0 ≡ (eqb n 0 && allOf (λ b. eqb b 0) xs)
+    from n [] = sym (and-true (eqb n 0))
+    from n (b ∷ bs) = from (n * 256 + b) bs ∙ go (eqb n 0) (eqb b 0) refl refl
+      where
+        go : (s t : Bool) → eqb n 0 ≡ s → eqb b 0 ≡ t
+            → (eqb (n * 256 + b) 0 && allOf (λ b. eqb b 0) bs) ≡ (s && cond t (allOf (λ b. eqb b 0) bs) false)
+        go true true p q = rw (eq-eqb (n * 256 + b) 0 (omega (arith, eqb-true n 0 p, eqb-true b 0 q)))
+        go true false p q = rw (ne-eqb (n * 256 + b) 0 (λ z. eqb-false b 0 q (omega arith)))
+        go false t p q = rw (ne-eqb (n * 256 + b) 0 (λ z. eqb-false n 0 p (omega arith)))
+
 -- parts of a list of bytes
 pub part-length : (at n : ℕ) (s : List ℕ) → at + n ≤ length s → length (part at n s) ≡ n
 part-length at n s h = simp (length-take, length-drop) (omega arith)
@@ -51,6 +67,10 @@ part-add at m n s = simp (take-add, drop-drop)
 
 part-cons : (at n : ℕ) (s : List ℕ) → at < length s → part at (suc n) s ≡ getD s at 0 ∷ part (at + 1) n s
 part-cons at n s h = rw (drop-cons s at 0 h, add-one)
+
+-- a part that is lent by its two ends
+pub lent-part : (at n : ℕ) (s : List ℕ) → take (at + n - at) (drop at s) ≡ part at n s
+lent-part at n s = let e : at + n - at ≡ n = omega arith in rw e
 
 -- two bytes, and four, one by one
 pub two : (s : List ℕ) (at : ℕ) → at + 2 ≤ length s → number (part at 2 s) ≡ getD s at 0 * 256 + getD s (at + 1) 0

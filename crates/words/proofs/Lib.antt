@@ -1,7 +1,9 @@
 pub mod Tests
+pub mod Found
 pub mod Lines
 pub mod Bits
 pub mod Digits
 pub mod Written
+pub mod Left
 pub mod Order
 pub mod Determined

@@ -5,7 +5,7 @@ use mathlib.Core.Bool.{Bool, true, false, cond, _||_, _&&_}
 use mathlib.Core.Logic.{_⊎_, inl, inr}
 use Prim.Native.Nat.{ℕ}
 use native.Mathlib.Omega.{arith}
-use Rattle.words.specs.Test.{anyOf, those}
+use Rattle.words.specs.Test.{anyOf, allOf, those}
 
 pub differ : true ≡ false → ⊥
 differ q = let z : _≡_ {A = ℕ} 0 1 = cc in omega arith
@@ -121,6 +121,31 @@ module _ {A : Type 0} (test : A → Bool) where
           → cond b true (anyOf test (xs ++ ys)) ≡ (cond b true (anyOf test xs) || anyOf test ys)
       go true ih = refl
       go false ih = ih
+
+  pub all-append : (xs ys : List A) → allOf test (xs ++ ys) ≡ (allOf test xs && allOf test ys)
+  unfolding allOf
+  all-append [] ys = refl
+  all-append (x ∷ xs) ys = go (test x) (all-append xs ys)
+    where
+      go : (b : Bool) → allOf test (xs ++ ys) ≡ (allOf test xs && allOf test ys)
+          → cond b (allOf test (xs ++ ys)) false ≡ (cond b (allOf test xs) false && allOf test ys)
+      go true ih = ih
+      go false ih = refl
+
+  pub all-each : (xs : List A) → allOf test xs ≡ true → Each (λ x. test x ≡ true) xs
+  unfolding Each allOf
+  all-each [] e = tt
+  all-each (x ∷ xs) e = go (all-each xs) (test x) refl e
+    where
+      go : (allOf test xs ≡ true → Each (λ x. test x ≡ true) xs) → (b : Bool) → test x ≡ b → cond b (allOf test xs) false ≡ true
+          → (test x ≡ true) × Each (λ x. test x ≡ true) xs
+      go later true q e = (q, later e)
+      go later false q e = absurd (differ (sym e))
+
+  pub each-all : (xs : List A) → Each (λ x. test x ≡ true) xs → allOf test xs ≡ true
+  unfolding Each allOf
+  each-all [] e = refl
+  each-all (x ∷ xs) e = rw (e .0) (each-all xs (e .1))
 
   pub those-pass : (xs : List A) → Each (λ x. test x ≡ true) (those test xs)
   unfolding Each those

@@ -6,9 +6,11 @@ use Prim.Native.Nat.{ℕ, zero, suc, _+_, _*_, _/_, _%_, _^_, _≤_, _<_}
 use native.Mathlib.Nat.{add-zero, zero-add, pow-suc}
 use native.Mathlib.Numerals.{add-one}
 use native.Mathlib.Omega.{arith}
-use borrow.Author.Tests.{le-leb}
+use borrow.Author.Tests.{leb-true, le-leb}
+use lib.Dec.{leb}
 use lib.ListN.{length, take, drop, set, length-append, length-take, length-drop, take-append-drop}
 use lib.Seq.{length-take-le, drop-drop, take-at, drop-at, append-snoc, set-split, sets-eq}
+use Rattle.words.specs.Test.{if_then_else_}
 use Rattle.words.specs.Number.{Bytes, numberFrom, number, part, within, numberAt}
 use Rattle.words.specs.Writing.{digits, over, written}
 use Rattle.words.specs.Realm.{realmAt, realmBytes}
@@ -92,6 +94,15 @@ pub written-all : (at : ℕ) (piece bytes : List ℕ) → at + length piece ≤ 
 unfolding written within
 written-all at piece bytes h = rw (le-leb (at + length piece) (length bytes) h) refl
 
+-- a total write keeps the length
+pub written-length : (at : ℕ) (piece bytes : List ℕ) → length (written at piece bytes) ≡ length bytes
+unfolding written within
+written-length at piece bytes = go (leb (at + length piece) (length bytes)) refl
+  where
+    go : (b : Bool) → leb (at + length piece) (length bytes) ≡ b → length (if b then over at piece bytes else bytes) ≡ length bytes
+    go true q = over-length at piece bytes (leb-true (at + length piece) (length bytes) q)
+    go false q = refl
+
 module _ {b : Bool} (at width : ℕ) (piece bytes : List ℕ) (l : length piece ≡ width) (q : b ≡ within at width bytes) where
   -- a piece that has room, and one that has none
   pub has-room : b ≡ true → over at piece bytes ≡ written at piece bytes
@@ -101,6 +112,14 @@ module _ {b : Bool} (at width : ℕ) (piece bytes : List ℕ) (l : length piece 
   pub has-none : b ≡ false → bytes ≡ written at piece bytes
   unfolding written
   has-none t = simp (l, ← q, t)
+
+-- a piece written right after another
+pub next-written : (at n : ℕ) (xs ys s t u : List ℕ) → length xs ≡ n → at + n + length ys ≤ length s → t ≡ over at xs s
+    → u ≡ written (at + n) ys t → u ≡ over at (xs ++ ys) s
+next-written at n xs ys s t u l h p q =
+    let fits : at + length xs ≤ length s = omega arith in
+    let k : at + n + length ys ≤ length (over at xs s) = rw (over-length at xs s fits) h in
+    q ∙ ap (written (at + n) ys) p ∙ written-all (at + n) ys (over at xs s) k ∙ over-next at n xs ys s l (omega arith)
 
 -- two stores, and four
 pub stored-two : (bytes : List ℕ) (at n : ℕ) → at + 2 ≤ length bytes → n < 65536 → set (set bytes at (n / 256)) (at + 1) (n % 256) ≡ over at (digits 2 n) bytes

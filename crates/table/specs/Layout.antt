@@ -1,0 +1,86 @@
+-- The table in bytes: what bytes mean, and the bytes of a table.
+use mathlib.Core.Path.{_≡_}
+use mathlib.Core.List.{List, [], _∷_, _++_, map}
+use Prim.Native.Nat.{ℕ, zero, suc, _-_, _/_}
+use lib.Dec.{eqb}
+use lib.ListN.{length, getD, take, drop, replicate}
+use Rattle.words.specs.Test.{if_then_else_}
+use Rattle.words.specs.Number.{numberAt}
+use Rattle.words.specs.Writing.{digits, written}
+use Rattle.claims.specs.declared.claim.FileId.{FileId}
+use Rattle.claims.specs.declared.claim.Claim.{Claim}
+use Rattle.table.specs.Table.{Table}
+use Rattle.table.specs.declared.slot.Slot.{Slot}
+use Rattle.table.specs.declared.slot.Slot.the-variants.{Free, Held}
+
+-- the bytes of a slot, and of the header
+abbrev pub width : ℕ
+width = 41
+
+unfoldable pub kindOf : List ℕ → ℕ
+kindOf bytes = getD bytes 0 0
+
+-- kind 1, types 2, host 2, file 12, first 8, last 8, number 8
+unfoldable pub claimOf : List ℕ → Claim
+claimOf slot = record {
+  types = numberAt 2 1 slot;
+  host = numberAt 2 3 slot;
+  file = record { hi = numberAt 8 5 slot; lo = numberAt 4 13 slot };
+  first = numberAt 8 17 slot;
+  last = numberAt 8 25 slot;
+}
+
+unfoldable pub slotOf : List ℕ → Slot
+slotOf slot = if eqb (kindOf slot) 1 then Held (numberAt 8 33 slot) (claimOf slot) else Free
+
+unfoldable pub fileBytes : FileId → List ℕ
+fileBytes file = digits 8 (file .hi) ++ digits 4 (file .lo)
+
+unfoldable pub fieldBytes : ℕ → ℕ → Claim → List ℕ
+fieldBytes kind number claim =
+    (kind ∷ []) ++ digits 2 (claim .types) ++ digits 2 (claim .host) ++ fileBytes (claim .file)
+    ++ digits 8 (claim .first) ++ digits 8 (claim .last) ++ digits 8 number
+
+-- kind 0 with 40 zero bytes, or kind 1 and its fields
+unfoldable pub slotBytes : Slot → List ℕ
+slotBytes Free = replicate width 0
+slotBytes (Held number claim) = fieldBytes 1 number claim
+
+-- the slots of bytes, one after the other
+unfoldable pub cut : ℕ → List ℕ → List (List ℕ)
+cut zero bytes = []
+cut (suc n) bytes = take width bytes ∷ cut n (drop width bytes)
+
+-- how many slots there are after the header
+abbrev pub count : List ℕ → ℕ
+count bytes = length bytes / width - 1
+
+unfoldable pub slotsIn : List ℕ → List (List ℕ)
+slotsIn bytes = cut (count bytes) (drop width bytes)
+
+-- header: kind 2, 32 zero bytes, next number 8
+unfoldable pub nextIn : List ℕ → ℕ
+nextIn bytes = numberAt 8 33 bytes
+
+unfoldable pub headerBytes : ℕ → List ℕ
+headerBytes next = (2 ∷ []) ++ replicate 32 0 ++ digits 8 next
+
+-- the table that bytes mean
+unfoldable pub tableOf : List ℕ → Table
+tableOf bytes = record { slots = map slotOf (slotsIn bytes); next = nextIn bytes }
+
+unfoldable pub joined : List (List ℕ) → List ℕ
+joined [] = []
+joined (piece ∷ pieces) = piece ++ joined pieces
+
+-- the bytes of a table
+unfoldable pub bytesOf : Table → List ℕ
+bytesOf t = headerBytes (t .next) ++ joined (map slotBytes (t .slots))
+
+-- reading a slot
+pub record ReadsSlot (slot : List ℕ) (r : Slot) : Type 0 where
+  pub answer : r ≡ slotOf slot
+
+-- writing a slot
+pub record WritesSlot (value : Slot) (slot after : List ℕ) : Type 0 where
+  pub slot-after : after ≡ written 0 (slotBytes value) slot

@@ -1,0 +1,11 @@
+-- What each reply says by 01's numbers.
+use mathlib.Core.List.{[], _∷_}
+use Rattle.words.specs.Said.{Said, done, refused}
+use Rattle.table.specs.declared.reply.Reply.{Reply}
+use Rattle.table.specs.declared.reply.Reply.the-variants.{Done, Value, Refused, Short}
+
+unfoldable pub replySays : Reply → Said
+replySays Done = done []
+replySays (Value n) = done (n ∷ [])
+replySays (Refused number) = refused number []
+replySays (Short count) = refused 35 (count ∷ [])

@@ -1,0 +1,5 @@
+pub mod Grant
+pub mod Ask
+pub mod Return
+pub mod DropHost
+pub mod Scan

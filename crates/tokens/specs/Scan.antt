@@ -1,0 +1,88 @@
+-- Contracts of the crate's own functions: what a scan has seen of the slots so far, and one slot changed.
+use mathlib.Core.Path.{_≡_}
+use mathlib.Core.Bool.{Bool, true, not}
+use mathlib.Core.List.{List, [], _++_, map}
+use Prim.Native.Nat.{ℕ, _+_, _≤_}
+use lib.Dec.{eqb}
+use lib.ListN.{length, getD}
+use Rattle.words.specs.Test.{if_then_else_, allOf, those, placeOf}
+use Rattle.words.specs.Said.{Said, done, refused, left}
+use Rattle.words.specs.Number.{part}
+use Rattle.words.specs.Writing.{over}
+use Rattle.claims.specs.Types.{lacks}
+use Rattle.claims.specs.Rule.{conflict}
+use Rattle.claims.specs.declared.claim.Claim.{Claim}
+use Rattle.table.specs.Table.{Table, put}
+use Rattle.table.specs.Layout.{width, slotOf, slotBytes, slotsIn, tableOf, bytesOf}
+use Rattle.table.specs.Form.{isSlot, wellFormed}
+use Rattle.table.specs.Reply.{replySays}
+use Rattle.table.specs.declared.reply.Reply.{Reply}
+use Rattle.table.specs.declared.slot.Slot.{Slot}
+use Rattle.table.specs.declared.slot.Slot.the-variants.{Free, Held}
+use Rattle.tokens.specs.Grant.{isFree, isInTheWay, roomSays, granted}
+use Rattle.tokens.specs.Ask.{entryFor}
+use Rattle.tokens.specs.Return.{typesIn, keeps, loses}
+use Rattle.tokens.specs.DropHost.{isHosts, dropped}
+use Rattle.tokens.specs.declared.survey.Survey.{Survey}
+
+-- one slot more, the one at i
+pub record Passes (seen : Survey) (i : ℕ) (slot : Slot) (claim : Claim) (r : Survey) : Type 0 where
+  pub formed : r .formed ≡ seen .formed
+  pub conflicts : r .conflicts ≡ (if isInTheWay claim slot then seen .conflicts + 1 else seen .conflicts)
+  pub free : r .free ≡ (if isFree slot then seen .free else if eqb (seen .free) i then seen .free + 1 else seen .free)
+
+pub record PassesToken (seen : Survey) (i : ℕ) (held claim : Claim) (r : Survey) : Type 0 where
+  pub formed : r .formed ≡ seen .formed
+  pub conflicts : r .conflicts ≡ (if not (eqb (conflict held claim) 0) then seen .conflicts + 1 else seen .conflicts)
+  pub free : r .free ≡ (if eqb (seen .free) i then seen .free + 1 else seen .free)
+
+-- what was seen of some slots
+pub record Saw (slots : List Slot) (claim : Claim) (r : Survey) : Type 0 where
+  pub conflicts : r .conflicts ≡ length (those (isInTheWay claim) slots)
+  pub free : r .free ≡ placeOf isFree slots
+
+pub record SurveysSlots (bytes : List ℕ) (claim : Claim) (top next : ℕ) (r : Survey) : Type 0 where
+  pub formed : r .formed ≡ allOf (isSlot top next) (slotsIn bytes)
+  pub saw : r .formed ≡ true → Saw (map slotOf (slotsIn bytes)) claim r
+
+pub record Surveys (bytes : List ℕ) (claim : Claim) (r : Survey) : Type 0 where
+  pub formed : r .formed ≡ wellFormed bytes
+  pub saw : r .formed ≡ true → Saw (tableOf bytes .slots) claim r
+
+-- room and numbers, of a well-formed table
+pub record Issues (bytes : List ℕ) (claim : Claim) (r : Reply) (after : List ℕ) : Type 0 where
+  pub answer : replySays r ≡ roomSays (tableOf bytes)
+  pub table-after : after ≡ left (roomSays (tableOf bytes)) (bytesOf (granted claim (tableOf bytes))) bytes
+
+-- the entry of a slot in the way, at a place; the place after it
+unfoldable pub entryIf : Claim → Slot → List ℕ
+entryIf claim slot = if isInTheWay claim slot then entryFor claim slot else []
+
+pub record Lists (slot : Slot) (claim : Claim) (out : List ℕ) (at r : ℕ) (after : List ℕ) : Type 0 where
+  pub end : r ≡ at + length (entryIf claim slot)
+  pub out-after : after ≡ over at (entryIf claim slot) out
+
+-- a token that loses types: 37, or done
+unfoldable pub lossSays : ℕ → ℕ → Said
+lossSays held types = if lacks held types then refused 37 [] else done []
+
+pub record LosesFrom (bytes : List ℕ) (at number : ℕ) (held : Claim) (types : ℕ) (r : Reply) (after : List ℕ) : Type 0 where
+  pub answer : replySays r ≡ lossSays (held .types) types
+  pub table-after : after ≡ (if lacks (held .types) types then bytes else over at (slotBytes (keeps types number held)) bytes)
+
+unfoldable pub slotSays : ℕ → Slot → Said
+slotSays types Free = refused 36 []
+slotSays types (Held number held) = lossSays (held .types) types
+
+pub record Loses (bytes : List ℕ) (i types : ℕ) (r : Reply) (after : List ℕ) : Type 0 where
+  pub answer : replySays r ≡ slotSays types (getD (tableOf bytes .slots) i Free)
+  pub table-after : after ≡ left (slotSays types (getD (tableOf bytes .slots) i Free)) (bytesOf (put (tableOf bytes) i (loses types (getD (tableOf bytes .slots) i Free)))) bytes
+
+-- one slot of the host's, or another
+pub record Frees (bytes : List ℕ) (at host r : ℕ) (after : List ℕ) : Type 0 where
+  pub count : r ≡ (if isHosts host (slotOf (part at width bytes)) then 1 else 0)
+  pub table-after : after ≡ (if isHosts host (slotOf (part at width bytes)) then over at (slotBytes Free) bytes else bytes)
+
+pub record FreesAll (bytes : List ℕ) (host r : ℕ) (after : List ℕ) : Type 0 where
+  pub count : r ≡ length (those (isHosts host) (tableOf bytes .slots))
+  pub table-after : after ≡ bytesOf (dropped host (tableOf bytes))

@@ -1,0 +1,98 @@
+// One scan of a table: its form, what is in the way of a claim, and the lowest free slot.
+use claims::Claim;
+use claims::conflict;
+use table::LIMIT;
+use table::NEXT;
+use table::Slot;
+use table::WIDTH;
+use table::is_slot;
+use table::opens;
+use table::read_slot;
+use words::number64;
+ghost use mathlib.Core.Path.{_≡_};
+ghost use mathlib.Core.Bool.{true};
+ghost use Prim.Native.Nat.{_+_, _≤_};
+ghost use lib.ListN.{length};
+ghost use Rattle.words.specs.Test.{if_then_else_};
+ghost use Rattle.table.specs.Form.{isLength};
+ghost use Rattle.tokens.specs.Scan.{PassesToken, Passes, SurveysSlots, Surveys};
+
+// Conflicts are counted; the free place is how many slots there are where none is free.
+pub(crate) struct Survey {
+    pub formed: bool,
+    pub conflicts: usize,
+    pub free: usize,
+}
+
+fn one_more(n: usize, test: bool) -> usize
+    requires { ⌜ n ≤ 1024 ⌝ }
+    ensures { λ r. ⌜ r ≡ (if test then n + 1 else n) ⌝ }
+{
+    if test { n + 1 } else { n }
+}
+
+// The slots up to the one at i, a token's.
+fn pass_token(seen: Survey, i: usize, held: Claim, claim: Claim) -> Survey
+    requires { ⌜ (seen .conflicts ≤ 1024) × (seen .free ≤ 1024) ⌝ }
+    ensures { λ r. ⌜ PassesToken seen i held claim r ⌝ }
+{
+    Survey {
+        formed: seen.formed,
+        conflicts: one_more(seen.conflicts, conflict(held, claim) != 0),
+        free: one_more(seen.free, seen.free == i),
+    }
+}
+
+// The slots up to the one at i.
+fn pass(seen: Survey, i: usize, slot: Slot, claim: Claim) -> Survey
+    requires { ⌜ (seen .conflicts ≤ 1024) × (seen .free ≤ 1024) ⌝ }
+    ensures { λ r. ⌜ Passes seen i slot claim r ⌝ }
+{
+    match slot {
+        Slot::Free => seen,
+        Slot::Held {
+            number: _,
+            claim: held,
+        } => pass_token(seen, i, held, claim),
+    }
+}
+
+fn survey_slots(table: &[u8], claim: Claim, limit: u16, next: u64) -> Survey
+    requires { ⌜ isLength (length (now table)) ≡ true ⌝ }
+    ensures { λ r. ⌜ SurveysSlots (now (table .entry)) claim limit next r ⌝ }
+{
+    let n = table.len() / WIDTH - 1;
+    let mut seen = Survey {
+        formed: true,
+        conflicts: 0,
+        free: 0,
+    };
+    let mut i = 0;
+    while i < n {
+        let at = WIDTH * (i + 1);
+        let slot = &table[at..at + WIDTH];
+        if !is_slot(slot, limit, next) {
+            return Survey {
+                formed: false,
+                conflicts: 0,
+                free: 0,
+            };
+        }
+        seen = pass(seen, i, read_slot(slot), claim);
+        i += 1;
+    }
+    seen
+}
+
+pub(crate) fn survey(table: &[u8], claim: Claim) -> Survey
+    ensures { λ r. ⌜ Surveys (now (table .entry)) claim r ⌝ }
+{
+    if !opens(table) {
+        return Survey {
+            formed: false,
+            conflicts: 0,
+            free: 0,
+        };
+    }
+    survey_slots(table, claim, LIMIT, number64(table, NEXT))
+}
