@@ -32,7 +32,7 @@ sized bytes e =
     let most = leb-true n (width * 1025) (and-right (eqb (n % width) 0 && leb (width * 2) n) (leb n (width * 1025)) e) in
     record { whole = omega arith; some = omega arith; few = omega arith }
 
-cut-length : (n : ℕ) (bytes : List ℕ) → length (cut n bytes) ≡ n
+pub cut-length : (n : ℕ) (bytes : List ℕ) → length (cut n bytes) ≡ n
 unfolding cut
 cut-length zero bytes = refl
 cut-length (suc n) bytes = ap suc (cut-length n (drop width bytes))

@@ -9,7 +9,7 @@ use lib.ListN.{length, drop, take, set, replicate, length-set, length-append, le
 use lib.Seq.{drop-cons, set-at, append-snoc, set-append-left, take-append-le, drop-append-le}
 use Rattle.words.specs.Said.{done, left}
 use Rattle.words.specs.Writing.{digits, over, written}
-use Rattle.words.proofs.Written.{digits-length, over-length, written-all}
+use Rattle.words.proofs.Written.{digits-length, over-length, over-front, written-all}
 use Rattle.words.proofs.Left.{left-whole}
 use Rattle.table.specs.Layout.{width, slotBytes, headerBytes, count, joined, bytesOf}
 use Rattle.table.specs.Form.{isLength}
@@ -41,11 +41,6 @@ module _ (old bytes : List ℕ) (i : ℕ) (c : Cleared old bytes i) where
   all-cleared h =
       let e : i ≡ length old = omega (arith, c .within) in
       c .so-far ∙ rw (drop-of-length-le old h, e) (append-nil (replicate (length old) 0))
-
-over-front : (at : ℕ) (piece xs ys : List ℕ) → at + length piece ≤ length xs → over at piece (xs ++ ys) ≡ over at piece xs ++ ys
-unfolding over
-over-front at piece xs ys h =
-    rw (take-append-le at xs ys (omega arith), drop-append-le (at + length piece) xs ys h) (sym (append-assoc (take at xs ++ piece) (drop (at + length piece) xs) ys))
 
 free-slots : (n : ℕ) → joined (map slotBytes (replicate n Free)) ≡ replicate (width * n) 0
 unfolding joined slotBytes

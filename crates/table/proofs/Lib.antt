@@ -4,3 +4,6 @@ pub mod Cuts
 pub mod Forms
 pub mod Scans
 pub mod Fresh
+pub mod Spelled
+pub mod Tables
+pub mod Means

@@ -9,7 +9,7 @@ use native.Mathlib.Omega.{arith}
 use borrow.Author.Tests.{leb-true, le-leb}
 use lib.Dec.{leb}
 use lib.ListN.{length, take, drop, set, length-append, length-take, length-drop, take-append-drop}
-use lib.Seq.{length-take-le, drop-drop, take-at, drop-at, append-snoc, set-split, sets-eq}
+use lib.Seq.{length-take-le, drop-drop, take-at, drop-at, take-append-le, drop-append-le, take-append-add, drop-append-add, append-snoc, set-split, sets-eq}
 use Rattle.words.specs.Test.{if_then_else_}
 use Rattle.words.specs.Number.{Bytes, numberFrom, number, part, within, numberAt}
 use Rattle.words.specs.Writing.{digits, over, written}
@@ -74,6 +74,20 @@ over-next at n xs ys bytes e h =
     sym (drop-drop (length ys) (at + n) (p ++ r)) ∙ rw (drop-at p r (at + n) l, drop-drop (length ys) (at + length xs) bytes, k)
     in
     rw (take-at p r (at + n) l, d, append-assoc (take at bytes) xs ys)
+
+-- a piece within the first of two parts, and within the second
+pub over-front : (at : ℕ) (piece xs ys : List ℕ) → at + length piece ≤ length xs → over at piece (xs ++ ys) ≡ over at piece xs ++ ys
+unfolding over
+over-front at piece xs ys h =
+    rw (take-append-le at xs ys (omega arith), drop-append-le (at + length piece) xs ys h) (sym (append-assoc (take at xs ++ piece) (drop (at + length piece) xs) ys))
+
+pub over-back : (n at : ℕ) (piece xs ys : List ℕ) → length xs ≡ n → over (n + at) piece (xs ++ ys) ≡ xs ++ over at piece ys
+unfolding over
+over-back n at piece xs ys e =
+    let k : length xs + at + length piece ≡ length xs + (at + length piece) = omega arith in
+    rw (← e, k, take-append-add xs ys at, drop-append-add xs ys (at + length piece))
+    (append-assoc (xs ++ take at ys) piece (drop (at + length piece) ys) ∙ append-assoc xs (take at ys) (piece ++ drop (at + length piece) ys)
+    ∙ ap (λ (zs : List ℕ). xs ++ zs) (sym (append-assoc (take at ys) piece (drop (at + length piece) ys))))
 
 -- nothing written, one byte
 pub over-none : (at : ℕ) (bytes : List ℕ) → over at [] bytes ≡ bytes
