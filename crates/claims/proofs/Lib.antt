@@ -2,3 +2,4 @@ pub mod Sets
 pub mod Sentence
 pub mod Symmetry
 pub mod Masks
+pub mod Fewer

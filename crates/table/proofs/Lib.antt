@@ -7,3 +7,5 @@ pub mod Fresh
 pub mod Spelled
 pub mod Tables
 pub mod Means
+pub mod Lent
+pub mod Calls

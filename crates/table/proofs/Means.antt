@@ -5,16 +5,16 @@ use mathlib.Core.List.{List, [], _∷_, _++_, map, append-assoc}
 use Prim.Native.Nat.{ℕ, zero, suc, _+_, _*_, _/_, _%_, _-_, _^_, _≤_, _<_}
 use native.Mathlib.Nat.{zero-add}
 use native.Mathlib.Omega.{arith}
-use borrow.Author.Tests.{eqb-true, eqb-false, ne-eqb, eq-eqb, le-leb, not-true, ltb-true}
+use borrow.Author.Tests.{eqb-true, eqb-false, ne-eqb, eq-eqb, le-leb, not-true, ltb-true, ltb-false}
 use lib.Dec.{eqb, leb, ltb}
 use lib.ListN.{length, getD, take, drop, replicate, length-append, length-map}
 use lib.Seq.{take-at, drop-at}
 use Rattle.words.specs.Test.{if_then_else_, allOf}
 use Rattle.words.specs.Number.{Bytes, number, part, within, numberAt}
 use Rattle.words.specs.Writing.{digits}
-use Rattle.words.proofs.Tests.{Each, each-all, and-left, and-right, and-both}
+use Rattle.words.proofs.Tests.{Each, each-all, and-left, and-right, and-both, or-left, or-right}
 use Rattle.words.proofs.Written.{digits-length, digits-number, number-again, number-fits}
-use Rattle.claims.specs.Claim.{malformed}
+use Rattle.claims.specs.Claim.{unfit, malformed}
 use Rattle.claims.specs.declared.claim.Claim.{Claim}
 use Rattle.table.specs.Table.{Table, limit}
 use Rattle.table.specs.Layout.{width, kindOf, claimOf, slotOf, fieldBytes, slotBytes, cut, count, slotsIn, nextIn, headerBytes, tableOf, joined, bytesOf}
@@ -153,3 +153,23 @@ ordered bytes h e =
       wide = number-fits bytes h 33 8 (omega arith);
       slots = slots-ordered (limit (tableOf bytes)) (nextIn bytes) (slotsIn bytes) (form-slots bytes e) (cut-bytes (count bytes) (drop width bytes) (drop-bytes width bytes h));
     }
+
+-- any of its slots is in order; a token in order has few types
+each-at : (top next : ℕ) (slots : List Slot) (i : ℕ) → Each (Ordered top next) slots → Ordered top next (getD slots i Free)
+unfolding Each Ordered
+each-at top next [] i e = tt
+each-at top next (s ∷ ss) zero e = e .0
+each-at top next (s ∷ ss) (suc i) e = each-at top next ss i (e .1)
+
+pub order-at : (t : Table) → InOrder t → (i : ℕ) → Ordered (limit t) (t .next) (getD (t .slots) i Free)
+order-at t o i = each-at (limit t) (t .next) (t .slots) i (o .slots)
+
+pub types-small : (top next number : ℕ) (claim : Claim) → Ordered top next (Held number claim) → claim .types ≤ top
+unfolding Ordered isToken malformed unfit
+types-small top next number claim o =
+    let shaped = not-true (malformed claim top) (and-left (not (malformed claim top)) (ltb 0 number) (and-left (not (malformed claim top) && ltb 0 number) (ltb number next) (o .0))) in
+    ltb-false top (claim .types) (or-right (eqb (claim .host) 0 || eqb (claim .types) 0) (ltb top (claim .types)) (or-left (eqb (claim .host) 0 || eqb (claim .types) 0 || ltb top (claim .types)) (ltb (claim .last) (claim .first)) shaped))
+
+-- read again, any of its slots is what it was
+pub again-at : (t : Table) → InOrder t → (i : ℕ) → slotOf (slotBytes (getD (t .slots) i Free)) ≡ getD (t .slots) i Free
+again-at t o i = slot-again (limit t) (t .next) (o .wide) (getD (t .slots) i Free) (order-at t o i)

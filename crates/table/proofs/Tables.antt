@@ -8,7 +8,7 @@ use native.Mathlib.Omega.{arith}
 use borrow.Author.Tests.{eqb-true, ne-eqb, eq-eqb, le-leb, not-true, ltb-true}
 use lib.Dec.{eqb, leb, ltb}
 use lib.ListN.{length, getD, take, drop, set, replicate, length-append, length-take, length-drop, length-map, length-replicate, take-append-drop, drop-of-length-le}
-use lib.Seq.{take-at, drop-at, take-add, take-take, length-take-le, getD-drop}
+use lib.Seq.{take-at, drop-at, take-add, take-take, length-take-le, drop-drop, getD-drop}
 use Rattle.words.specs.Test.{allOf}
 use Rattle.words.specs.Number.{Bytes, part, numberAt}
 use Rattle.words.specs.Writing.{digits, over}
@@ -118,6 +118,27 @@ put-bytes t i slot h =
     ap (λ (n : ℕ). over n (slotBytes slot) (headerBytes (t .next) ++ joined (map slotBytes (t .slots)))) e
     ∙ over-back width (width * i) (slotBytes slot) (headerBytes (t .next)) (joined (map slotBytes (t .slots))) (header-length (t .next))
     ∙ ap (λ (xs : List ℕ). headerBytes (t .next) ++ xs) (set-joined (t .slots) i slot h)
+
+-- the bytes of the slot at a place
+joined-at : (slots : List Slot) (i : ℕ) → i < length slots → part (width * i) width (joined (map slotBytes slots)) ≡ slotBytes (getD slots i Free)
+unfolding joined
+joined-at [] i h = absurd (omega arith)
+joined-at (s ∷ ss) zero h = take-at (slotBytes s) (joined (map slotBytes ss)) width (slot-length s)
+joined-at (s ∷ ss) (suc i) h =
+    let e : width * suc i ≡ width + width * i = omega arith in
+    ap (λ (n : ℕ). part n width (slotBytes s ++ joined (map slotBytes ss))) e
+    ∙ ap (take width) (sym (drop-drop (width * i) width (slotBytes s ++ joined (map slotBytes ss)))
+    ∙ ap (drop (width * i)) (drop-at (slotBytes s) (joined (map slotBytes ss)) width (slot-length s)))
+    ∙ joined-at ss i (omega arith)
+
+pub bytes-at : (t : Table) (i : ℕ) → i < length (t .slots) → part (width * (i + 1)) width (bytesOf t) ≡ slotBytes (getD (t .slots) i Free)
+unfolding bytesOf
+bytes-at t i h =
+    let e : width * (i + 1) ≡ width + width * i = omega arith in
+    ap (λ (n : ℕ). part n width (headerBytes (t .next) ++ joined (map slotBytes (t .slots)))) e
+    ∙ ap (take width) (sym (drop-drop (width * i) width (headerBytes (t .next) ++ joined (map slotBytes (t .slots))))
+    ∙ ap (drop (width * i)) (drop-at (headerBytes (t .next)) (joined (map slotBytes (t .slots))) width (header-length (t .next))))
+    ∙ joined-at (t .slots) i h
 
 -- the next number written in place
 next-header : (old next : ℕ) → over 33 (digits 8 next) (headerBytes old) ≡ headerBytes next

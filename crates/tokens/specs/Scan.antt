@@ -1,8 +1,8 @@
 -- Contracts of the crate's own functions: what a scan has seen of the slots so far, and one slot changed.
 use mathlib.Core.Path.{_≡_}
-use mathlib.Core.Bool.{Bool, true, not}
-use mathlib.Core.List.{List, [], _++_, map}
-use Prim.Native.Nat.{ℕ, _+_, _≤_}
+use mathlib.Core.Bool.{true, not}
+use mathlib.Core.List.{List, []}
+use Prim.Native.Nat.{ℕ, _+_}
 use lib.Dec.{eqb}
 use lib.ListN.{length, getD}
 use Rattle.words.specs.Test.{if_then_else_, allOf, those, placeOf}
@@ -23,29 +23,29 @@ use Rattle.tokens.specs.Grant.{isFree, isInTheWay, roomSays, granted}
 use Rattle.tokens.specs.Ask.{entryFor}
 use Rattle.tokens.specs.Return.{typesIn, keeps, loses}
 use Rattle.tokens.specs.DropHost.{isHosts, dropped}
-use Rattle.tokens.specs.declared.survey.Survey.{Survey}
+use Rattle.tokens.specs.declared.survey.Seen.{Seen}
 
 -- one slot more, the one at i
-pub record Passes (seen : Survey) (i : ℕ) (slot : Slot) (claim : Claim) (r : Survey) : Type 0 where
+pub record Passes (seen : Seen) (i : ℕ) (slot : Slot) (claim : Claim) (r : Seen) : Type 0 where
   pub formed : r .formed ≡ seen .formed
   pub conflicts : r .conflicts ≡ (if isInTheWay claim slot then seen .conflicts + 1 else seen .conflicts)
   pub free : r .free ≡ (if isFree slot then seen .free else if eqb (seen .free) i then seen .free + 1 else seen .free)
 
-pub record PassesToken (seen : Survey) (i : ℕ) (held claim : Claim) (r : Survey) : Type 0 where
+pub record PassesToken (seen : Seen) (i : ℕ) (held claim : Claim) (r : Seen) : Type 0 where
   pub formed : r .formed ≡ seen .formed
   pub conflicts : r .conflicts ≡ (if not (eqb (conflict held claim) 0) then seen .conflicts + 1 else seen .conflicts)
   pub free : r .free ≡ (if eqb (seen .free) i then seen .free + 1 else seen .free)
 
 -- what was seen of some slots
-pub record Saw (slots : List Slot) (claim : Claim) (r : Survey) : Type 0 where
+pub record Saw (slots : List Slot) (claim : Claim) (r : Seen) : Type 0 where
   pub conflicts : r .conflicts ≡ length (those (isInTheWay claim) slots)
   pub free : r .free ≡ placeOf isFree slots
 
-pub record SurveysSlots (bytes : List ℕ) (claim : Claim) (top next : ℕ) (r : Survey) : Type 0 where
+pub record SurveysSlots (bytes : List ℕ) (claim : Claim) (top next : ℕ) (r : Seen) : Type 0 where
   pub formed : r .formed ≡ allOf (isSlot top next) (slotsIn bytes)
-  pub saw : r .formed ≡ true → Saw (map slotOf (slotsIn bytes)) claim r
+  pub saw : r .formed ≡ true → Saw (tableOf bytes .slots) claim r
 
-pub record Surveys (bytes : List ℕ) (claim : Claim) (r : Survey) : Type 0 where
+pub record Surveys (bytes : List ℕ) (claim : Claim) (r : Seen) : Type 0 where
   pub formed : r .formed ≡ wellFormed bytes
   pub saw : r .formed ≡ true → Saw (tableOf bytes .slots) claim r
 

@@ -18,7 +18,7 @@ ghost use Rattle.table.specs.Form.{isLength};
 ghost use Rattle.tokens.specs.Scan.{PassesToken, Passes, SurveysSlots, Surveys};
 
 // Conflicts are counted; the free place is how many slots there are where none is free.
-pub(crate) struct Survey {
+pub(crate) struct Seen {
     pub formed: bool,
     pub conflicts: usize,
     pub free: usize,
@@ -32,11 +32,11 @@ fn one_more(n: usize, test: bool) -> usize
 }
 
 // The slots up to the one at i, a token's.
-fn pass_token(seen: Survey, i: usize, held: Claim, claim: Claim) -> Survey
+fn pass_token(seen: Seen, i: usize, held: Claim, claim: Claim) -> Seen
     requires { ⌜ (seen .conflicts ≤ 1024) × (seen .free ≤ 1024) ⌝ }
     ensures { λ r. ⌜ PassesToken seen i held claim r ⌝ }
 {
-    Survey {
+    Seen {
         formed: seen.formed,
         conflicts: one_more(seen.conflicts, conflict(held, claim) != 0),
         free: one_more(seen.free, seen.free == i),
@@ -44,7 +44,7 @@ fn pass_token(seen: Survey, i: usize, held: Claim, claim: Claim) -> Survey
 }
 
 // The slots up to the one at i.
-fn pass(seen: Survey, i: usize, slot: Slot, claim: Claim) -> Survey
+fn pass(seen: Seen, i: usize, slot: Slot, claim: Claim) -> Seen
     requires { ⌜ (seen .conflicts ≤ 1024) × (seen .free ≤ 1024) ⌝ }
     ensures { λ r. ⌜ Passes seen i slot claim r ⌝ }
 {
@@ -57,12 +57,12 @@ fn pass(seen: Survey, i: usize, slot: Slot, claim: Claim) -> Survey
     }
 }
 
-fn survey_slots(table: &[u8], claim: Claim, limit: u16, next: u64) -> Survey
+fn survey_slots(table: &[u8], claim: Claim, limit: u16, next: u64) -> Seen
     requires { ⌜ isLength (length (now table)) ≡ true ⌝ }
     ensures { λ r. ⌜ SurveysSlots (now (table .entry)) claim limit next r ⌝ }
 {
     let n = table.len() / WIDTH - 1;
-    let mut seen = Survey {
+    let mut seen = Seen {
         formed: true,
         conflicts: 0,
         free: 0,
@@ -72,7 +72,7 @@ fn survey_slots(table: &[u8], claim: Claim, limit: u16, next: u64) -> Survey
         let at = WIDTH * (i + 1);
         let slot = &table[at..at + WIDTH];
         if !is_slot(slot, limit, next) {
-            return Survey {
+            return Seen {
                 formed: false,
                 conflicts: 0,
                 free: 0,
@@ -84,11 +84,11 @@ fn survey_slots(table: &[u8], claim: Claim, limit: u16, next: u64) -> Survey
     seen
 }
 
-pub(crate) fn survey(table: &[u8], claim: Claim) -> Survey
+pub(crate) fn survey(table: &[u8], claim: Claim) -> Seen
     ensures { λ r. ⌜ Surveys (now (table .entry)) claim r ⌝ }
 {
     if !opens(table) {
-        return Survey {
+        return Seen {
             formed: false,
             conflicts: 0,
             free: 0,

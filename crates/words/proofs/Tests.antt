@@ -1,10 +1,13 @@
 -- Both parts of a test that passed, or failed; the elements that pass a test; what holds of each element. Assumes nothing.
 use mathlib.Core.Path.{_≡_, refl, sym, ap}
 use mathlib.Core.List.{List, [], _∷_, _++_, map}
-use mathlib.Core.Bool.{Bool, true, false, cond, _||_, _&&_}
+use mathlib.Core.Bool.{Bool, true, false, cond, not, _||_, _&&_}
 use mathlib.Core.Logic.{_⊎_, inl, inr}
-use Prim.Native.Nat.{ℕ}
+use Prim.Native.Nat.{ℕ, suc, _≤_}
 use native.Mathlib.Omega.{arith}
+use borrow.Author.Tests.{ne-eqb}
+use lib.Dec.{eqb}
+use lib.ListN.{length}
 use Rattle.words.specs.Test.{anyOf, allOf, those}
 
 pub differ : true ≡ false → ⊥
@@ -44,6 +47,14 @@ fails false h = refl
 pub or-left : (a b : Bool) → (a || b) ≡ false → a ≡ false
 or-left true b t = t
 or-left false b t = refl
+
+pub or-right : (a b : Bool) → (a || b) ≡ false → b ≡ false
+or-right true b t = absurd (differ t)
+or-right false b t = t
+
+pub map-append : {A B : Type 0} (f : A → B) (xs ys : List A) → map f (xs ++ ys) ≡ map f xs ++ map f ys
+map-append f [] ys = refl
+map-append {B = B} f (x ∷ xs) ys = ap (λ (zs : List B). f x ∷ zs) (map-append f xs ys)
 
 module _ {A : Type 0} (test : A → Bool) where
   pub those-append : (xs ys : List A) → those test (xs ++ ys) ≡ those test xs ++ those test ys
@@ -111,6 +122,26 @@ module _ {A : Type 0} (test : A → Bool) where
           → (test x ≡ false) × Each (λ x. test x ≡ false) xs
       go later true q e = absurd (differ e)
       go later false q e = (q, later e)
+
+  pub those-few : (xs : List A) → length (those test xs) ≤ length xs
+  unfolding those
+  those-few [] = omega arith
+  those-few (x ∷ xs) = go (test x) (those-few xs)
+    where
+      go : (b : Bool) → length (those test xs) ≤ length xs → length (cond b (x ∷ those test xs) (those test xs)) ≤ suc (length xs)
+      go true h = omega arith
+      go false h = omega arith
+
+  -- some pass where those that do are not none
+  pub any-those : (xs : List A) → anyOf test xs ≡ not (eqb (length (those test xs)) 0)
+  unfolding anyOf those
+  any-those [] = refl
+  any-those (x ∷ xs) = go (test x) (any-those xs)
+    where
+      go : (b : Bool) → anyOf test xs ≡ not (eqb (length (those test xs)) 0)
+          → cond b true (anyOf test xs) ≡ not (eqb (length (cond b (x ∷ those test xs) (those test xs))) 0)
+      go true ih = rw (ne-eqb (suc (length (those test xs))) 0 (λ e. omega arith)) refl
+      go false ih = ih
 
   pub any-append : (xs ys : List A) → anyOf test (xs ++ ys) ≡ (anyOf test xs || anyOf test ys)
   unfolding anyOf

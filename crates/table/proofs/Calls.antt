@@ -1,0 +1,29 @@
+-- A call on a table, by its bytes. Assumes nothing.
+use mathlib.Core.Path.{_≡_, refl, sym, _∙_, ap}
+use mathlib.Core.Bool.{Bool, true, false}
+use mathlib.Core.List.{List, []}
+use Prim.Native.Nat.{ℕ}
+use Rattle.words.specs.Said.{Said, done, refused, left}
+use Rattle.words.proofs.Left.{left-whole}
+use Rattle.table.specs.Table.{Table}
+use Rattle.table.specs.Layout.{tableOf, bytesOf}
+use Rattle.table.specs.Form.{wellFormed}
+use Rattle.table.specs.Call.{saysOf, leftOf}
+
+module _ (says : Table → Said) (bytes : List ℕ) where
+  pub says-ill : wellFormed bytes ≡ false → saysOf says bytes ≡ refused 30 []
+  unfolding saysOf
+  says-ill e = rw e refl
+
+  pub says-well : wellFormed bytes ≡ true → saysOf says bytes ≡ says (tableOf bytes)
+  unfolding saysOf
+  says-well e = rw e refl
+
+  module _ (changed : Table → Table) where
+    pub left-refused : {number : ℕ} {values : List ℕ} → saysOf says bytes ≡ refused number values → leftOf says changed bytes ≡ bytes
+    unfolding leftOf left
+    left-refused e = rw e refl
+
+    pub left-by : {said : Said} → saysOf says bytes ≡ said → leftOf says changed bytes ≡ left said (bytesOf (changed (tableOf bytes))) bytes
+    unfolding leftOf
+    left-by e = rw e refl

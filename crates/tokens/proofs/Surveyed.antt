@@ -1,0 +1,90 @@
+-- One scan: the form, the tokens in the way, the lowest free slot. Assumes nothing.
+use mathlib.Core.Path.{_≡_, refl, sym, _∙_, ap}
+use mathlib.Core.Bool.{Bool, true, false, cond, _&&_}
+use mathlib.Core.List.{List, [], _∷_, _++_}
+use Prim.Native.Nat.{ℕ, suc, _+_, _*_, _≤_, _<_}
+use native.Mathlib.Omega.{arith}
+use lib.Dec.{eqb}
+use lib.ListN.{length, take, length-append}
+use lib.Seq.{take-all, length-take-le}
+use Rattle.words.specs.Test.{if_then_else_, allOf, those, placeOf}
+use Rattle.words.specs.Number.{part}
+use Rattle.words.proofs.Tests.{differ, those-append, those-few}
+use Rattle.words.proofs.Found.{place-within, place-more}
+use Rattle.claims.specs.declared.claim.Claim.{Claim}
+use Rattle.table.specs.Table.{limit}
+use Rattle.table.specs.Layout.{width, slotOf, count, slotsIn, nextIn, tableOf}
+use Rattle.table.specs.Form.{isLength, isSlot, opening, wellFormed}
+use Rattle.table.specs.declared.slot.Slot.{Slot}
+use Rattle.table.proofs.Cuts.{table-length, table-more}
+use Rattle.table.proofs.Scans.{Checked, none-checked, one-checked, one-bad, all-checked}
+use Rattle.tokens.specs.Grant.{isFree, isInTheWay}
+use Rattle.tokens.specs.Scan.{Passes, Saw, SurveysSlots, Surveys}
+use Rattle.tokens.specs.declared.survey.Seen.{Seen}
+
+-- one element more among those that pass
+pub counted-more : {A : Type 0} (test : A → Bool) (xs : List A) (x : A)
+    → length (those test (xs ++ (x ∷ []))) ≡ (if test x then length (those test xs) + 1 else length (those test xs))
+unfolding those
+counted-more test xs x =
+    ap length (those-append test xs (x ∷ [])) ∙ length-append (those test xs) (cond (test x) (x ∷ []) []) ∙ go (test x)
+  where
+    go : (b : Bool) → length (those test xs) + length (cond b (x ∷ []) []) ≡ (if b then length (those test xs) + 1 else length (those test xs))
+    go true = refl
+    go false = omega arith
+
+-- what was seen of the first i slots
+pub record Looked (bytes : List ℕ) (claim : Claim) (top next i : ℕ) (seen : Seen) : Type 0 where
+  pub checked : Checked bytes top next i
+  pub formed : seen .formed ≡ true
+  pub saw : Saw (take i (tableOf bytes .slots)) claim seen
+
+module _ (bytes : List ℕ) (claim : Claim) (top next : ℕ) where
+  pub none-looked : isLength (length bytes) ≡ true → Looked bytes claim top next 0 (record { formed = true; conflicts = 0; free = 0 })
+  unfolding those placeOf
+  none-looked e = record { checked = none-checked bytes top next e; formed = refl; saw = record { conflicts = refl; free = refl } }
+
+  module _ (i : ℕ) (seen : Seen) (so-far : Looked bytes claim top next i seen) where
+    length-so-far : length (take i (tableOf bytes .slots)) ≡ i
+    length-so-far = length-take-le i (tableOf bytes .slots) (rw (table-length bytes) (so-far .checked .within))
+
+    pub few-conflicts : seen .conflicts ≤ 1024
+    few-conflicts =
+        omega (arith, so-far .saw .conflicts, those-few (isInTheWay claim) (take i (tableOf bytes .slots)), length-so-far, so-far .checked .within, so-far .checked .size .few)
+
+    pub few-free : seen .free ≤ 1024
+    few-free =
+        omega (arith, so-far .saw .free, place-within isFree (take i (tableOf bytes .slots)), length-so-far, so-far .checked .within, so-far .checked .size .few)
+
+    module _ (h : i < count bytes) {b : Bool} (told : b ≡ isSlot top next (part (width * (i + 1)) width bytes)) where
+      pub one-looked : {slot : Slot} {r : Seen} → b ≡ true → slot ≡ slotOf (part (width * (i + 1)) width bytes) → Passes seen i slot claim r
+          → Looked bytes claim top next (i + 1) r
+      one-looked {slot} {r} good read p =
+          let more : take (i + 1) (tableOf bytes .slots) ≡ take i (tableOf bytes .slots) ++ (slot ∷ []) = table-more bytes i h ∙ rw (← read) refl in
+          record {
+            checked = one-checked bytes top next i (so-far .checked) h told good;
+            formed = p .formed ∙ so-far .formed;
+            saw = record {
+              conflicts = p .conflicts ∙ rw (so-far .saw .conflicts, more) (sym (counted-more (isInTheWay claim) (take i (tableOf bytes .slots)) slot));
+              free = p .free ∙ rw (so-far .saw .free, more) (ap (λ (n : ℕ). if isFree slot then placeOf isFree (take i (tableOf bytes .slots)) else if eqb (placeOf isFree (take i (tableOf bytes .slots))) n then placeOf isFree (take i (tableOf bytes .slots)) + 1 else placeOf isFree (take i (tableOf bytes .slots))) (sym length-so-far) ∙ sym (place-more isFree (take i (tableOf bytes .slots)) slot));
+            };
+          }
+
+      pub ill-looked : b ≡ false → SurveysSlots bytes claim top next (record { formed = false; conflicts = 0; free = 0 })
+      ill-looked bad = record { formed = one-bad bytes top next i (so-far .checked) h told bad; saw = λ e. absurd (differ (sym e)) }
+
+    pub all-looked : count bytes ≤ i → SurveysSlots bytes claim top next seen
+    all-looked h =
+        let all : take i (tableOf bytes .slots) ≡ tableOf bytes .slots = take-all i (tableOf bytes .slots) (rw (table-length bytes) h) in
+        record { formed = so-far .formed ∙ all-checked bytes top next i (so-far .checked) h; saw = λ e. rw all at (so-far .saw) }
+
+  -- of the whole table
+  module _ {b : Bool} (told : b ≡ opening bytes) where
+    pub no-survey : b ≡ false → Surveys bytes claim (record { formed = false; conflicts = 0; free = 0 })
+    unfolding wellFormed
+    no-survey bad = record { formed = rw (← told, bad) refl; saw = λ e. absurd (differ (sym e)) }
+
+pub whole-survey : (bytes : List ℕ) (claim : Claim) {b : Bool} → b ≡ opening bytes → b ≡ true → {r : Seen}
+    → SurveysSlots bytes claim (limit (tableOf bytes)) (nextIn bytes) r → Surveys bytes claim r
+unfolding wellFormed
+whole-survey bytes claim told good s = record { formed = s .formed ∙ rw (← told, good) refl; saw = s .saw }
