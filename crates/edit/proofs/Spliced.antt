@@ -7,6 +7,7 @@ use native.Mathlib.Omega.{arith}
 use borrow.Author.Tests.{lt-ltb, le-ltb}
 use lib.ListN.{length, take, drop, length-append, length-drop}
 use lib.Seq.{length-take-le}
+use Rattle.words.specs.Said.{left}
 use Rattle.words.specs.Writing.{over}
 use Rattle.words.proofs.Written.{over-none, over-start, over-next}
 use Rattle.list.specs.Kind.{size}

@@ -43,13 +43,17 @@ fn pass_token(seen: Seen, i: usize, held: Claim, claim: Claim) -> Seen
     }
 }
 
-// The slots up to the one at i.
+// The slots up to the one at i. What was seen is made anew in both arms: so it stays in registers.
 fn pass(seen: Seen, i: usize, slot: Slot, claim: Claim) -> Seen
     requires { ⌜ (seen .conflicts ≤ 1024) × (seen .free ≤ 1024) ⌝ }
     ensures { λ r. ⌜ Passes seen i slot claim r ⌝ }
 {
     match slot {
-        Slot::Free => seen,
+        Slot::Free => Seen {
+            formed: seen.formed,
+            conflicts: seen.conflicts,
+            free: seen.free,
+        },
         Slot::Held {
             number: _,
             claim: held,

@@ -5,3 +5,4 @@ pub mod Bit
 pub mod Number
 pub mod Writing
 pub mod Realm
+pub mod Little

@@ -1,8 +1,9 @@
 // Big-endian numbers, read from lent bytes and written to them.
 ghost use mathlib.Core.Path.{_≡_};
-ghost use Prim.Native.Nat.{_+_, _≤_, _<_};
+ghost use Prim.Native.Nat.{_+_, _*_, _/_, _%_, _≤_, _<_};
 ghost use lib.ListN.{length};
 ghost use Rattle.words.specs.Number.{number, part, within, ReadsNumber};
+ghost use Rattle.words.specs.Little.{LittleTwo, LittleFour};
 ghost use Rattle.words.specs.Writing.{digits, over, WritesNumber};
 
 fn wide(byte: u8) -> u32
@@ -22,21 +23,49 @@ pub(crate) fn holds(bytes: &[u8], at: usize, width: usize) -> bool
     at <= n - width
 }
 
+// Two bytes with the lowest first: the compiler makes this one load, and `turned16` one instruction.
+fn little16(bytes: &[u8], at: usize) -> u16
+    requires { ⌜ at + 2 ≤ length (now bytes) ⌝ }
+    ensures { λ r. ⌜ LittleTwo (now (bytes .entry)) at r ⌝ }
+{
+    (wide(bytes[at]) + wide(bytes[at + 1]) * 256) as u16
+}
+
+// The same of four bytes.
+fn little32(bytes: &[u8], at: usize) -> u32
+    requires { ⌜ at + 4 ≤ length (now bytes) ⌝ }
+    ensures { λ r. ⌜ LittleFour (now (bytes .entry)) at r ⌝ }
+{
+    wide(bytes[at])
+        + wide(bytes[at + 1]) * 256
+        + wide(bytes[at + 2]) * 65536
+        + wide(bytes[at + 3]) * 16777216
+}
+
+fn turned16(n: u16) -> u16
+    ensures { λ r. ⌜ r ≡ n % 256 * 256 + n / 256 ⌝ }
+{
+    n % 256 * 256 + n / 256
+}
+
+fn turned32(n: u32) -> u32
+    ensures { λ r. ⌜ r ≡ n % 256 * 16777216 + n / 256 % 256 * 65536 + n / 65536 % 256 * 256 + n / 16777216 ⌝ }
+{
+    n % 256 * 16777216 + n / 256 % 256 * 65536 + n / 65536 % 256 * 256 + n / 16777216
+}
+
 fn whole16(bytes: &[u8], at: usize) -> u16
     requires { ⌜ at + 2 ≤ length (now bytes) ⌝ }
     ensures { λ r. ⌜ r ≡ number (part at 2 (now (bytes .entry))) ⌝ }
 {
-    (wide(bytes[at]) * 256 + wide(bytes[at + 1])) as u16
+    turned16(little16(bytes, at))
 }
 
 fn whole32(bytes: &[u8], at: usize) -> u32
     requires { ⌜ at + 4 ≤ length (now bytes) ⌝ }
     ensures { λ r. ⌜ (r ≡ number (part at 4 (now (bytes .entry)))) × (r < 4294967296) ⌝ }
 {
-    wide(bytes[at]) * 16777216
-        + wide(bytes[at + 1]) * 65536
-        + wide(bytes[at + 2]) * 256
-        + wide(bytes[at + 3])
+    turned32(little32(bytes, at))
 }
 
 // Two halves: so the compiler makes one load of the eight bytes.

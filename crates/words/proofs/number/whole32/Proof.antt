@@ -9,21 +9,6 @@ pub whole32-spec : {M : Type 1} → statement M
 whole32-spec =
     tie.close
     (tie.spec
-    (λ c. search needs)
     (λ c κs. search needs)
-    (λ c. search needs)
-    (λ c. search needs)
-    (λ c. search needs)
     (λ c κs. search needs)
-    (λ c. search needs)
-    (λ c. search needs)
-    (λ c. search needs)
-    (λ c. search needs)
-    (λ c κs. search needs)
-    (λ c. search needs)
-    (λ c. search needs)
-    (λ c. search needs)
-    (λ c. search needs)
-    (λ c κs. search needs)
-    (λ c. search needs)
-    (λ c. let a = c .before .before .before .before .before .before .before .before .before .args in (rw (c .before .before .before .before .before .before .wide .ensures .0, c .before .before .before .before .wide2 .ensures .0, c .before .before .wide3 .ensures .0, c .wide4 .ensures .0) (sym (four (a .bytes .now) (a .at) (omega arith))), omega arith)))
+    (λ c. let a = c .before .before .before .args in let l = c .before .little32 .ensures in (rw (c .turned32 .ensures, l .lowest, l .second, l .third, l .highest) (sym (four (a .bytes .now) (a .at) (omega arith))), omega arith)))
