@@ -1,13 +1,13 @@
 -- Audit says yes exactly of a well-formed table whose numbers differ and in which nothing conflicts. Assumes nothing.
-use mathlib.Core.Path.{_≡_, refl, sym, _∙_, ap}
-use mathlib.Core.Bool.{Bool, true, false, not, _&&_}
+use mathlib.Core.Path.{_≡_, refl, sym}
+use mathlib.Core.Bool.{Bool, true, false, not}
 use mathlib.Core.List.{List, [], _∷_}
 use mathlib.Core.Logic.{_↔_, _≢_}
-use Prim.Native.Nat.{ℕ, zero, suc, _≤_, _<_}
+use Prim.Native.Nat.{ℕ, zero, suc, _<_}
 use native.Mathlib.Omega.{arith}
 use borrow.Author.Tests.{ltb-true, ltb-false, eqb-true, eqb-false, eq-eqb, ne-eqb, not-true}
 use lib.Dec.{eqb, ltb}
-use lib.ListN.{length, getD}
+use lib.ListN.{getD}
 use Rattle.words.specs.Test.{allOf}
 use Rattle.words.proofs.Tests.{Each, all-each, each-all, and-left, and-right, and-both}
 use Rattle.claims.specs.Rule.{conflict}
@@ -99,6 +99,7 @@ module _ (t : Table) where
 
 pub exactly : (bytes : List ℕ) → (sound bytes ≡ true) ↔ ((wellFormed bytes ≡ true) × Quiet (tableOf bytes))
 unfolding sound
-exactly bytes =
-    (λ e. (and-left (wellFormed bytes) (allApart (tableOf bytes .slots)) e, quiet (tableOf bytes) (and-right (wellFormed bytes) (allApart (tableOf bytes .slots)) e)),
-    λ q. and-both (wellFormed bytes) (allApart (tableOf bytes .slots)) (q .0) (all-apart (tableOf bytes) (q .1)))
+exactly bytes = (
+  λ e. (and-left (wellFormed bytes) (allApart (tableOf bytes .slots)) e, quiet (tableOf bytes) (and-right (wellFormed bytes) (allApart (tableOf bytes .slots)) e)),
+  λ q. and-both (wellFormed bytes) (allApart (tableOf bytes .slots)) (q .0) (all-apart (tableOf bytes) (q .1)),
+)

@@ -2,11 +2,10 @@
 use mathlib.Core.Path.{_≡_, refl, sym, _∙_, ap}
 use mathlib.Core.Bool.{Bool, true, false, cond, _&&_, and-false}
 use mathlib.Core.List.{List, [], _∷_, _++_}
-use Prim.Native.Nat.{ℕ, suc, _+_, _*_, _≤_, _<_}
-use native.Mathlib.Numerals.{add-one}
+use Prim.Native.Nat.{ℕ, _+_, _*_, _≤_, _<_}
 use native.Mathlib.Omega.{arith}
-use lib.ListN.{length, getD, take, drop, take-append-drop}
-use lib.Seq.{take-suc, take-all, take-take}
+use lib.ListN.{length, take, drop, take-append-drop}
+use lib.Seq.{take-all, take-take}
 use Rattle.words.specs.Test.{allOf}
 use Rattle.words.specs.Number.{part}
 use Rattle.words.proofs.Tests.{differ, all-append}
@@ -14,7 +13,7 @@ use Rattle.table.specs.Layout.{width, slotOf, count, tableOf}
 use Rattle.table.specs.Form.{isLength}
 use Rattle.table.specs.declared.slot.Slot.{Slot}
 use Rattle.table.specs.declared.slot.Slot.the-variants.{Free, Held}
-use Rattle.table.proofs.Cuts.{Sized, sized, table-length, table-at, table-more}
+use Rattle.table.proofs.Cuts.{Sized, sized, table-length, table-more}
 use Rattle.audit.specs.Audit.{apart, allApart}
 
 -- one slot more

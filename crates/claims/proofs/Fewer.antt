@@ -1,8 +1,8 @@
 -- Types taken from a set, as the code does it: by `&` and a difference. Assumes nothing.
 use mathlib.Core.Path.{_≡_, refl, sym, _∙_, ap}
-use mathlib.Core.Bool.{Bool, true, false, not, _||_, _&&_}
+use mathlib.Core.Bool.{Bool, true, false, not, _&&_}
 use mathlib.Core.Logic.{_⊎_, inl, inr}
-use Prim.Native.Nat.{ℕ, zero, suc, _+_, _-_, _/_, _%_, _^_, _≤_, _<_}
+use Prim.Native.Nat.{ℕ, zero, suc, _-_, _/_, _^_, _≤_, _<_}
 use native.Mathlib.Nat.{pow-suc}
 use native.Mathlib.Omega.{arith}
 use borrow.Author.Tests.{eqb-true, eq-eqb, ne-eqb, not-true, not-false}
@@ -10,10 +10,10 @@ use lib.Arith.{lt-one}
 use lib.Bits.{bitAnd, bitOr, or-disjoint, and-le-r, and-le-l}
 use lib.Dec.{eqb}
 use Rattle.words.specs.Bit.{bit}
-use Rattle.words.proofs.Tests.{differ, fails, and-left, and-right, and-both, or-one, one-or}
+use Rattle.words.proofs.Tests.{differ, fails, and-left, and-right, or-one, one-or, and-both}
 use Rattle.words.proofs.Bits.{bit-next, bit-and, bit-or}
 use Rattle.claims.specs.Types.{kinds, without, lacks}
-use Rattle.claims.proofs.Sets.{bit-zero, bit-set, set-below, in-set, some-found, some-at, empty, same-set, same-members}
+use Rattle.claims.proofs.Sets.{bit-zero, bit-set, in-set, some-found, some-at, empty, same-set, same-members}
 
 pub below : (n s i : ℕ) → s < 2 ^ n → bit i s ≡ true → i < n
 below zero s i h e = absurd (differ (sym e ∙ rw (lt-one h) (bit-zero i)))
@@ -27,6 +27,14 @@ module _ (held types : ℕ) where
   in-without i e =
       let p = in-set kinds (λ j. bit j held && not (bit j types)) i e in
       (and-left (bit i held) (not (bit i types)) p, not-true (bit i types) (and-right (bit i held) (not (bit i types)) p))
+
+  pub without-less : without held types ≤ held
+  without-less =
+      let e : bitAnd (without held types) held ≡ without held types =
+      same-members (bitAnd (without held types) held) (without held types)
+      (λ i p. and-left (bit i (without held types)) (bit i held) (sym (bit-and i (without held types) held) ∙ p))
+      (λ i p. bit-and i (without held types) held ∙ and-both (bit i (without held types)) (bit i held) p (in-without i p .0)) in
+      omega (arith, and-le-r (without held types) held)
 
   module _ (few : types < 2 ^ kinds) where
     -- some type is lacking where what both have is not all of them

@@ -3,3 +3,4 @@ pub mod Sentence
 pub mod Symmetry
 pub mod Masks
 pub mod Fewer
+pub mod Determined

@@ -1,9 +1,9 @@
 -- The conflicting types as the code tells them, by masks. Assumes nothing.
 use mathlib.Core.Path.{_≡_, refl, sym, _∙_, ap}
 use mathlib.Core.Bool.{Bool, true, false, not, _||_, _&&_, and-true}
-use Prim.Native.Nat.{ℕ, _*_, _/_, _%_, _≤_, _<_}
+use Prim.Native.Nat.{ℕ, _*_, _/_, _%_, _<_}
 use native.Mathlib.Omega.{arith}
-use borrow.Author.Tests.{eqb-true, eq-eqb, not-false}
+use borrow.Author.Tests.{eqb-true, not-false}
 use lib.Bits.{bitAnd, bitOr, and-mod, and-mask, and-le-r}
 use lib.Dec.{eqb}
 use Rattle.words.specs.Bit.{bit}
@@ -13,7 +13,7 @@ use Rattle.claims.specs.Types.{kinds, setBelow, someBelow}
 use Rattle.claims.specs.Rule.{family, isSecond, coversFile, sameFile, overlaps, clash, conflict}
 use Rattle.claims.specs.Mask.{against, reach}
 use Rattle.claims.specs.declared.claim.Claim.{Claim}
-use Rattle.claims.proofs.Sets.{bit-set, set-below, in-set, some-found, some-at, empty, same-members}
+use Rattle.claims.proofs.Sets.{bit-set, set-below, in-set, some-found, some-at, same-members}
 
 -- by family, as the code has it
 unfoldable masked : ℕ → ℕ

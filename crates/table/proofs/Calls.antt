@@ -1,10 +1,9 @@
 -- A call on a table, by its bytes. Assumes nothing.
-use mathlib.Core.Path.{_≡_, refl, sym, _∙_, ap}
-use mathlib.Core.Bool.{Bool, true, false}
+use mathlib.Core.Path.{_≡_, refl}
+use mathlib.Core.Bool.{true, false}
 use mathlib.Core.List.{List, []}
 use Prim.Native.Nat.{ℕ}
-use Rattle.words.specs.Said.{Said, done, refused, left}
-use Rattle.words.proofs.Left.{left-whole}
+use Rattle.words.specs.Said.{Said, refused, left}
 use Rattle.table.specs.Table.{Table}
 use Rattle.table.specs.Layout.{tableOf, bytesOf}
 use Rattle.table.specs.Form.{wellFormed}

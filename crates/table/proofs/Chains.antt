@@ -1,14 +1,13 @@
 -- The fields of a slot, written one after the other. Assumes nothing.
 use mathlib.Core.Path.{_≡_, refl, sym, _∙_, ap}
-use mathlib.Core.Bool.{true, false}
 use mathlib.Core.List.{List, [], _∷_, _++_, append-assoc}
 use Prim.Native.Nat.{ℕ, _+_, _≤_, _<_}
 use native.Mathlib.Omega.{arith}
-use borrow.Author.Tests.{le-leb, lt-leb}
+use borrow.Author.Tests.{lt-leb}
 use lib.ListN.{length, set, length-append}
 use Rattle.words.specs.Writing.{digits, over, written}
 use Rattle.words.specs.Number.{within}
-use Rattle.words.proofs.Written.{digits-length, over-length, over-next, set-over, written-all, next-written}
+use Rattle.words.proofs.Written.{digits-length, over-next, set-over, written-all, next-written}
 use Rattle.claims.specs.declared.claim.FileId.{FileId}
 use Rattle.claims.specs.declared.claim.Claim.{Claim}
 use Rattle.table.specs.Layout.{width, fileBytes, fieldBytes, slotBytes}

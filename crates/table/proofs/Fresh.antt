@@ -1,22 +1,19 @@
 -- A table that is filled. Assumes nothing.
 use mathlib.Core.Path.{_≡_, refl, sym, _∙_, ap}
-use mathlib.Core.Bool.{true}
-use mathlib.Core.List.{List, [], _∷_, _++_, map, append-assoc, append-nil}
+use mathlib.Core.List.{List, [], _∷_, _++_, map, append-nil}
 use Prim.Native.Nat.{ℕ, zero, suc, _+_, _*_, _≤_, _<_}
 use native.Mathlib.Numerals.{add-one}
 use native.Mathlib.Omega.{arith}
-use lib.ListN.{length, drop, take, set, replicate, length-set, length-append, length-replicate, replicate-append-replicate, drop-of-length-le}
-use lib.Seq.{drop-cons, set-at, append-snoc, set-append-left, take-append-le, drop-append-le}
+use lib.ListN.{length, drop, set, replicate, length-set, length-replicate, replicate-append-replicate, drop-of-length-le}
+use lib.Seq.{drop-cons, set-at, append-snoc, set-append-left}
 use Rattle.words.specs.Said.{done, left}
 use Rattle.words.specs.Writing.{digits, over, written}
 use Rattle.words.proofs.Written.{digits-length, over-length, over-front, written-all}
 use Rattle.words.proofs.Left.{left-whole}
 use Rattle.table.specs.Layout.{width, slotBytes, headerBytes, count, joined, bytesOf}
-use Rattle.table.specs.Form.{isLength}
 use Rattle.table.specs.Fill.{filled}
-use Rattle.table.specs.declared.slot.Slot.{Slot}
 use Rattle.table.specs.declared.slot.Slot.the-variants.{Free}
-use Rattle.table.proofs.Cuts.{Sized, sized}
+use Rattle.table.proofs.Cuts.{Sized}
 
 -- the first i bytes are cleared
 pub record Cleared (old bytes : List ℕ) (i : ℕ) : Type 0 where

@@ -1,12 +1,12 @@
 -- A slot read or written as a lent part of the table. Assumes nothing.
-use mathlib.Core.Path.{_≡_, refl, sym, _∙_, ap}
-use mathlib.Core.List.{List, _++_, append-assoc, append-nil}
+use mathlib.Core.Path.{_≡_, sym, _∙_, ap}
+use mathlib.Core.List.{List, append-assoc, append-nil}
 use Prim.Native.Nat.{ℕ, _+_, _-_, _≤_}
 use native.Mathlib.Nat.{le-of-eq}
 use native.Mathlib.Omega.{arith}
-use borrow.Rule.Slice.PartMut.{putMid, midOf, postOf, same-len-mid}
-use lib.ListN.{length, take, drop, length-drop, drop-of-length-le}
-use lib.Seq.{length-take-le, drop-drop}
+use borrow.Rule.Slice.PartMut.{putMid}
+use lib.ListN.{length, take, drop, drop-of-length-le}
+use lib.Seq.{drop-drop}
 use Rattle.words.specs.Number.{part}
 use Rattle.words.specs.Writing.{over, written}
 use Rattle.words.proofs.Digits.{lent-part, part-length}

@@ -9,3 +9,5 @@ pub mod Tables
 pub mod Means
 pub mod Lent
 pub mod Calls
+pub mod Ordering
+pub mod Determined

@@ -1,19 +1,18 @@
 -- The bytes of a table in order are well formed and mean that table. Assumes nothing.
-use mathlib.Core.Path.{_≡_, refl, sym, _∙_, ap, ap₂}
+use mathlib.Core.Path.{_≡_, refl, _∙_, ap, ap₂}
 use mathlib.Core.Bool.{Bool, true, false, not, _||_, _&&_}
 use mathlib.Core.List.{List, [], _∷_, _++_, map, append-assoc}
-use Prim.Native.Nat.{ℕ, zero, suc, _+_, _*_, _/_, _%_, _-_, _^_, _≤_, _<_}
-use native.Mathlib.Nat.{zero-add}
+use Prim.Native.Nat.{ℕ, zero, suc, _+_, _*_, _%_, _-_, _^_, _≤_, _<_}
 use native.Mathlib.Omega.{arith}
-use borrow.Author.Tests.{eqb-true, eqb-false, ne-eqb, eq-eqb, le-leb, not-true, ltb-true, ltb-false}
+use borrow.Author.Tests.{eqb-false, ne-eqb, eq-eqb, le-leb, not-true, ltb-true, ltb-false}
 use lib.Dec.{eqb, leb, ltb}
-use lib.ListN.{length, getD, take, drop, replicate, length-append, length-map}
+use lib.ListN.{length, getD, drop, replicate, length-map}
 use lib.Seq.{take-at, drop-at}
 use Rattle.words.specs.Test.{if_then_else_, allOf}
-use Rattle.words.specs.Number.{Bytes, number, part, within, numberAt}
+use Rattle.words.specs.Number.{Bytes, number, part, numberAt}
 use Rattle.words.specs.Writing.{digits}
 use Rattle.words.proofs.Tests.{Each, each-all, and-left, and-right, and-both, or-left, or-right}
-use Rattle.words.proofs.Written.{digits-length, digits-number, number-again, number-fits}
+use Rattle.words.proofs.Written.{number-again, number-fits}
 use Rattle.claims.specs.Claim.{unfit, malformed}
 use Rattle.claims.specs.declared.claim.Claim.{Claim}
 use Rattle.table.specs.Table.{Table, limit}
@@ -22,10 +21,10 @@ use Rattle.table.specs.Form.{isLength, allZero, isHeader, isToken, isSlo
 use Rattle.table.specs.declared.slot.Slot.{Slot}
 use Rattle.table.specs.declared.slot.Slot.the-variants.{Free, Held}
 use Rattle.table.proofs.Chains.{field-length, slot-length}
-use Rattle.table.proofs.Cuts.{Sized, sized, cut-length}
+use Rattle.table.proofs.Cuts.{cut-length}
 use Rattle.table.proofs.Spelled.{Fits, Formed, blank, token, formed, slot-size, claim-again, kind-again, token-again, free-again, claim-fits, blank-kind}
-use Rattle.table.proofs.Spelled as spelled
 use Rattle.table.proofs.Tables.{header-length, bytes-length, cut-bytes, drop-bytes, form-size, form-header, form-slots}
+use Rattle.table.proofs.Spelled as spelled
 
 -- a slot in order: free, or a token whose numbers are as wide as the bytes
 unfoldable pub Ordered : ℕ → ℕ → Slot → Type 0

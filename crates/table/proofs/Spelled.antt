@@ -2,22 +2,20 @@
 use mathlib.Core.Path.{_≡_, refl, sym, _∙_, ap, ap₂}
 use mathlib.Core.Bool.{Bool, true, false, cond, _||_, _&&_}
 use mathlib.Core.List.{List, [], _∷_, _++_, append-assoc}
-use Prim.Native.Nat.{ℕ, zero, suc, _+_, _^_, _≤_, _<_}
+use Prim.Native.Nat.{ℕ, _+_, _^_, _≤_, _<_}
 use native.Mathlib.Omega.{arith}
 use borrow.Author.Tests.{eqb-true}
-use lib.Dec.{eqb, ltb}
+use lib.Dec.{eqb}
 use lib.ListN.{length, getD, take, replicate}
 use lib.Seq.{take-add, take-all}
 use Rattle.words.specs.Test.{if_then_else_, allOf}
-use Rattle.words.specs.Number.{Bytes, numberFrom, number, part, within, numberAt}
+use Rattle.words.specs.Number.{Bytes, numberFrom, number, within, numberAt}
 use Rattle.words.specs.Writing.{digits}
 use Rattle.words.proofs.Tests.{differ, and-left, and-right}
 use Rattle.words.proofs.Written.{digits-number, number-spelled, number-fits}
-use Rattle.claims.specs.declared.claim.FileId.{FileId}
 use Rattle.claims.specs.declared.claim.Claim.{Claim}
 use Rattle.table.specs.Layout.{width, kindOf, claimOf, slotOf, fileBytes, fieldBytes, slotBytes}
 use Rattle.table.specs.Form.{allZero, isToken, isSlot}
-use Rattle.table.specs.declared.slot.Slot.{Slot}
 use Rattle.table.specs.declared.slot.Slot.the-variants.{Free, Held}
 
 -- what the numbers of a claim always are: as wide as the bytes

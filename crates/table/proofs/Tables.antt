@@ -1,30 +1,28 @@
 -- A table in bytes, both ways, and a slot or the next number changed in place. Assumes nothing.
 use mathlib.Core.Path.{_≡_, refl, sym, _∙_, ap, ap₂}
-use mathlib.Core.Bool.{Bool, true, false, not, _&&_}
-use mathlib.Core.List.{List, [], _∷_, _++_, map, append-assoc, append-nil}
-use Prim.Native.Nat.{ℕ, zero, suc, _+_, _*_, _/_, _-_, _^_, _≤_, _<_}
+use mathlib.Core.Bool.{true, _&&_}
+use mathlib.Core.List.{List, [], _∷_, _++_, map, append-nil}
+use Prim.Native.Nat.{ℕ, zero, suc, _+_, _*_, _-_, _≤_, _<_}
 use native.Mathlib.Nat.{le-of-eq}
 use native.Mathlib.Omega.{arith}
-use borrow.Author.Tests.{eqb-true, ne-eqb, eq-eqb, le-leb, not-true, ltb-true}
-use lib.Dec.{eqb, leb, ltb}
-use lib.ListN.{length, getD, take, drop, set, replicate, length-append, length-take, length-drop, length-map, length-replicate, take-append-drop, drop-of-length-le}
-use lib.Seq.{take-at, drop-at, take-add, take-take, length-take-le, drop-drop, getD-drop}
-use Rattle.words.specs.Test.{allOf}
-use Rattle.words.specs.Number.{Bytes, part, numberAt}
+use borrow.Author.Tests.{eqb-true}
+use lib.Dec.{eqb}
+use lib.ListN.{length, getD, take, drop, set, replicate, length-append, length-take, length-drop, take-append-drop, drop-of-length-le}
+use lib.Seq.{take-at, drop-at, take-add, drop-drop, getD-drop}
+use Rattle.words.specs.Number.{Bytes, part}
 use Rattle.words.specs.Writing.{digits, over}
-use Rattle.words.proofs.Tests.{Each, all-each, each-all, each-so, and-left, and-right, and-both}
+use Rattle.words.proofs.Tests.{Each, all-each, and-left, and-right}
 use Rattle.words.proofs.Digits.{part-bytes}
-use Rattle.words.proofs.Written.{digits-length, digits-number, over-front, over-back, over-start, number-spelled, number-fits}
-use Rattle.claims.specs.declared.claim.Claim.{Claim}
-use Rattle.table.specs.Table.{Table, limit, put, issue}
-use Rattle.table.specs.Layout.{width, kindOf, claimOf, slotOf, slotBytes, cut, count, slotsIn, nextIn, headerBytes, tableOf, joined, bytesOf}
-use Rattle.table.specs.Form.{isLength, allZero, isHeader, isToken, isSlot, opening, wellFormed}
+use Rattle.words.proofs.Written.{digits-length, over-front, over-back, over-start}
+use Rattle.table.specs.Table.{Table, limit, put}
+use Rattle.table.specs.Layout.{width, kindOf, slotOf, slotBytes, cut, count, slotsIn, nextIn, headerBytes, tableOf, joined, bytesOf}
+use Rattle.table.specs.Form.{isLength, allZero, isHeader, isSlot, opening, wellFormed}
 use Rattle.table.specs.declared.slot.Slot.{Slot}
-use Rattle.table.specs.declared.slot.Slot.the-variants.{Free, Held}
+use Rattle.table.specs.declared.slot.Slot.the-variants.{Free}
 use Rattle.table.proofs.Chains.{slot-length}
 use Rattle.table.proofs.Cuts.{Sized, sized}
 use Rattle.table.proofs.Forms.{opening-length}
-use Rattle.table.proofs.Spelled.{slot-size, slot-spelled, zeroes-are, first-byte, longer}
+use Rattle.table.proofs.Spelled.{slot-spelled, zeroes-are, first-byte, longer}
 
 -- bytes cut into slots are those slots one after the other
 cut-joined : (n : ℕ) (bytes : List ℕ) → length bytes ≡ width * n → joined (cut n bytes) ≡ bytes

@@ -1,11 +1,10 @@
 -- A token table: its slots, and the number that the next token gets.
-use mathlib.Core.Bool.{Bool, true, false, cond}
-use mathlib.Core.List.{List, [], _∷_}
-use Prim.Native.Nat.{ℕ, suc, _+_}
+use mathlib.Core.List.{List}
+use Prim.Native.Nat.{ℕ, _+_}
 use lib.ListN.{set}
 use Rattle.claims.specs.declared.claim.Claim.{Claim}
 use Rattle.table.specs.declared.slot.Slot.{Slot}
-use Rattle.table.specs.declared.slot.Slot.the-variants.{Free, Held}
+use Rattle.table.specs.declared.slot.Slot.the-variants.{Held}
 
 pub record Table : Type 0 where
   pub slots : List Slot

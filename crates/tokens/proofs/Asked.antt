@@ -2,12 +2,11 @@
 use mathlib.Core.Path.{_≡_, refl, sym, _∙_, ap}
 use mathlib.Core.Bool.{Bool, true, false}
 use mathlib.Core.List.{List, [], _∷_}
-use Prim.Native.Nat.{ℕ, _+_, _*_, _≤_, _<_}
+use Prim.Native.Nat.{ℕ, _*_, _≤_, _<_}
 use native.Mathlib.Omega.{arith}
 use borrow.Author.Tests.{lt-ltb, le-ltb}
-use lib.Dec.{ltb}
 use lib.ListN.{length}
-use Rattle.words.specs.Said.{Said, done, refused, andThen, left}
+use Rattle.words.specs.Said.{done, refused, andThen, left}
 use Rattle.words.specs.Writing.{over}
 use Rattle.words.proofs.Tests.{those-few}
 use Rattle.words.proofs.Written.{over-start}

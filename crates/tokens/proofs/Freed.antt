@@ -6,21 +6,19 @@ use Prim.Native.Nat.{ℕ, suc, _+_, _*_, _≤_, _<_}
 use native.Mathlib.Numerals.{add-one}
 use native.Mathlib.Omega.{arith}
 use borrow.Author.Tests.{eq-eqb, ne-eqb}
-use lib.Dec.{eqb}
-use lib.ListN.{length, getD, take, drop, set, length-append, length-map, length-take, length-drop, drop-of-length-le}
+use lib.ListN.{length, getD, take, drop, set, length-append, length-map, length-drop, drop-of-length-le}
 use lib.Seq.{take-suc, take-all, drop-cons, set-at, append-snoc, length-take-le, getD-at}
 use Rattle.words.specs.Test.{if_then_else_, those}
-use Rattle.words.specs.Said.{Said, done, refused, left}
+use Rattle.words.specs.Said.{done, refused}
 use Rattle.words.specs.Number.{Bytes, part}
 use Rattle.words.specs.Writing.{over}
 use Rattle.words.proofs.Tests.{map-append}
 use Rattle.words.proofs.Left.{left-whole}
-use Rattle.table.specs.Table.{Table, withSlots, put}
+use Rattle.table.specs.Table.{withSlots}
 use Rattle.table.specs.Layout.{width, slotOf, slotBytes, count, tableOf, bytesOf}
 use Rattle.table.specs.Form.{wellFormed}
 use Rattle.table.specs.Reply.{replySays}
-use Rattle.table.specs.Call.{saysOf, leftOf}
-use Rattle.table.specs.declared.reply.Reply.{Reply}
+use Rattle.table.specs.Call.{saysOf}
 use Rattle.table.specs.declared.reply.Reply.the-variants.{Value, Refused}
 use Rattle.table.specs.declared.slot.Slot.{Slot}
 use Rattle.table.specs.declared.slot.Slot.the-variants.{Free}

@@ -6,9 +6,9 @@ use Prim.Native.Nat.{ℕ, _+_, _*_, _≤_, _<_}
 use native.Mathlib.Omega.{arith}
 use borrow.Author.Tests.{lt-ltb, le-ltb, eq-eqb, ne-eqb}
 use lib.Dec.{eqb, ltb}
-use lib.ListN.{length, set, length-set}
-use Rattle.words.specs.Test.{if_then_else_, anyOf, those, placeOf}
-use Rattle.words.specs.Said.{Said, done, refused, andThen, left}
+use lib.ListN.{length, length-set}
+use Rattle.words.specs.Test.{anyOf, placeOf}
+use Rattle.words.specs.Said.{done, refused, andThen, left}
 use Rattle.words.specs.Number.{Bytes, numberAt}
 use Rattle.words.specs.Writing.{digits, over, written}
 use Rattle.words.proofs.Tests.{any-those}
@@ -17,15 +17,14 @@ use Rattle.words.proofs.Written.{digits-length, written-all}
 use Rattle.words.proofs.Left.{left-whole}
 use Rattle.claims.specs.Claim.{malformed}
 use Rattle.claims.specs.declared.claim.Claim.{Claim}
-use Rattle.table.specs.Table.{Table, limit, put, issue}
+use Rattle.table.specs.Table.{limit, put}
 use Rattle.table.specs.Layout.{width, slotBytes, count, nextIn, tableOf, bytesOf}
 use Rattle.table.specs.Form.{wellFormed}
 use Rattle.table.specs.Reply.{replySays}
-use Rattle.table.specs.Call.{saysOf, leftOf}
+use Rattle.table.specs.Call.{saysOf}
 use Rattle.table.specs.declared.reply.Reply.{Reply}
 use Rattle.table.specs.declared.reply.Reply.the-variants.{Value, Refused}
-use Rattle.table.specs.declared.slot.Slot.{Slot}
-use Rattle.table.specs.declared.slot.Slot.the-variants.{Free, Held}
+use Rattle.table.specs.declared.slot.Slot.the-variants.{Held}
 use Rattle.table.proofs.Cuts.{table-length}
 use Rattle.table.proofs.Tables.{form-size, bytes-table, put-bytes, next-bytes, bytes-length}
 use Rattle.table.proofs.Calls.{says-ill, says-well, left-refused, left-by}

@@ -5,3 +5,6 @@ pub mod Issued
 pub mod Asked
 pub mod Returned
 pub mod Freed
+pub mod Kept
+pub mod Count
+pub mod Determined

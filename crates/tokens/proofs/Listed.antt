@@ -1,14 +1,14 @@
 -- The list of what is in the way, entry by entry. Assumes nothing.
 use mathlib.Core.Path.{_≡_, refl, sym, _∙_, ap}
-use mathlib.Core.Bool.{Bool, true, false, not, cond}
+use mathlib.Core.Bool.{Bool, true, false, cond}
 use mathlib.Core.List.{List, [], _∷_, _++_, map, append-assoc, append-nil}
-use Prim.Native.Nat.{ℕ, suc, _+_, _*_, _≤_, _<_}
+use Prim.Native.Nat.{ℕ, _+_, _*_, _≤_, _<_}
 use native.Mathlib.Nat.{zero-add, le-of-eq}
 use native.Mathlib.Omega.{arith}
-use borrow.Author.Tests.{ltb-true, ltb-false, eq-eqb, ne-eqb}
-use lib.Dec.{eqb, ltb}
+use borrow.Author.Tests.{ltb-true, ltb-false, ne-eqb}
+use lib.Dec.{ltb}
 use lib.ListN.{length, take, drop, set, length-append, take-append-drop}
-use lib.Seq.{take-all, length-take-le}
+use lib.Seq.{take-all}
 use Rattle.words.specs.Test.{if_then_else_, those}
 use Rattle.words.specs.Number.{part}
 use Rattle.words.specs.Writing.{digits, over, written}
@@ -20,7 +20,7 @@ use Rattle.table.specs.Layout.{width, slotOf, count, tableOf, joined}
 use Rattle.table.specs.Form.{isLength}
 use Rattle.table.specs.declared.slot.Slot.{Slot}
 use Rattle.table.specs.declared.slot.Slot.the-variants.{Free, Held}
-use Rattle.table.proofs.Cuts.{Sized, sized, table-length, table-more, table-split}
+use Rattle.table.proofs.Cuts.{Sized, sized, table-length, table-more}
 use Rattle.tokens.specs.Grant.{isInTheWay}
 use Rattle.tokens.specs.Ask.{entryBytes, entryFor, inTheWay, listFor}
 use Rattle.tokens.specs.Scan.{entryIf, Lists}

@@ -1,36 +1,36 @@
 -- Returning, by the tests that the code makes. Assumes nothing.
 use mathlib.Core.Path.{_≡_, refl, sym, _∙_, ap}
-use mathlib.Core.Bool.{Bool, true, false, not, _||_, _&&_}
-use mathlib.Core.List.{List, [], _∷_}
-use Prim.Native.Nat.{ℕ, _+_, _-_, _*_, _^_, _≤_, _<_}
+use mathlib.Core.Bool.{Bool, true, false, not, _||_}
+use mathlib.Core.List.{List, []}
+use Prim.Native.Nat.{ℕ, _+_, _-_, _*_, _≤_, _<_}
 use native.Mathlib.Omega.{arith}
-use borrow.Author.Tests.{lt-ltb, le-ltb, ltb-false, eq-eqb, ne-eqb, eqb-true, not-true}
+use borrow.Author.Tests.{lt-ltb, le-ltb, ltb-false, eq-eqb, ne-eqb}
 use lib.Bits.{bitAnd}
 use lib.Dec.{eqb, ltb}
-use lib.ListN.{length, getD, set, length-set}
+use lib.ListN.{length, getD, length-set}
 use Rattle.words.specs.Test.{if_then_else_, anyOf, placeOf}
-use Rattle.words.specs.Said.{Said, done, refused, left}
+use Rattle.words.specs.Said.{done, refused, left}
 use Rattle.words.specs.Number.{Bytes, part}
 use Rattle.words.specs.Writing.{over}
 use Rattle.words.proofs.Tests.{differ, or-right}
 use Rattle.words.proofs.Found.{any-placed, passes-there}
 use Rattle.words.proofs.Left.{left-whole}
 use Rattle.claims.specs.Types.{without, lacks}
-use Rattle.claims.specs.Claim.{withTypes, unfit, malformed}
+use Rattle.claims.specs.Claim.{withTypes, unfit}
 use Rattle.claims.specs.declared.claim.Claim.{Claim}
 use Rattle.claims.proofs.Fewer.{lacks-and, difference}
 use Rattle.table.specs.Table.{Table, limit, put}
-use Rattle.table.specs.Layout.{width, slotOf, slotBytes, count, slotsIn, nextIn, tableOf, bytesOf}
-use Rattle.table.specs.Form.{isToken, wellFormed}
+use Rattle.table.specs.Layout.{width, slotOf, slotBytes, count, tableOf, bytesOf}
+use Rattle.table.specs.Form.{wellFormed}
 use Rattle.table.specs.Reply.{replySays}
-use Rattle.table.specs.Call.{saysOf, leftOf}
+use Rattle.table.specs.Call.{saysOf}
 use Rattle.table.specs.declared.reply.Reply.{Reply}
 use Rattle.table.specs.declared.reply.Reply.the-variants.{Done, Refused}
 use Rattle.table.specs.declared.slot.Slot.{Slot}
 use Rattle.table.specs.declared.slot.Slot.the-variants.{Free, Held}
 use Rattle.table.proofs.Cuts.{table-length, table-at}
 use Rattle.table.proofs.Tables.{form-size, bytes-table, put-bytes, bytes-length}
-use Rattle.table.proofs.Means.{Ordered, InOrder, ordered, types-small, order-at}
+use Rattle.table.proofs.Means.{ordered, types-small, order-at}
 use Rattle.table.proofs.Calls.{says-ill, says-well, left-refused, left-by}
 use Rattle.tokens.specs.Return.{isOf, typesIn, keeps, loses, placeIn, tokenIn, returnSays, returned, Returns}
 use Rattle.tokens.specs.Scan.{lossSays, LosesFrom, slotSays, Loses}

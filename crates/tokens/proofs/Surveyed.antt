@@ -1,19 +1,19 @@
 -- One scan: the form, the tokens in the way, the lowest free slot. Assumes nothing.
 use mathlib.Core.Path.{_≡_, refl, sym, _∙_, ap}
-use mathlib.Core.Bool.{Bool, true, false, cond, _&&_}
+use mathlib.Core.Bool.{Bool, true, false, cond}
 use mathlib.Core.List.{List, [], _∷_, _++_}
-use Prim.Native.Nat.{ℕ, suc, _+_, _*_, _≤_, _<_}
+use Prim.Native.Nat.{ℕ, _+_, _*_, _≤_, _<_}
 use native.Mathlib.Omega.{arith}
 use lib.Dec.{eqb}
 use lib.ListN.{length, take, length-append}
 use lib.Seq.{take-all, length-take-le}
-use Rattle.words.specs.Test.{if_then_else_, allOf, those, placeOf}
+use Rattle.words.specs.Test.{if_then_else_, those, placeOf}
 use Rattle.words.specs.Number.{part}
 use Rattle.words.proofs.Tests.{differ, those-append, those-few}
 use Rattle.words.proofs.Found.{place-within, place-more}
 use Rattle.claims.specs.declared.claim.Claim.{Claim}
 use Rattle.table.specs.Table.{limit}
-use Rattle.table.specs.Layout.{width, slotOf, count, slotsIn, nextIn, tableOf}
+use Rattle.table.specs.Layout.{width, slotOf, count, nextIn, tableOf}
 use Rattle.table.specs.Form.{isLength, isSlot, opening, wellFormed}
 use Rattle.table.specs.declared.slot.Slot.{Slot}
 use Rattle.table.proofs.Cuts.{table-length, table-more}

@@ -12,7 +12,7 @@ use Rattle.words.specs.Writing.{over}
 use Rattle.claims.specs.Types.{lacks}
 use Rattle.claims.specs.Rule.{conflict}
 use Rattle.claims.specs.declared.claim.Claim.{Claim}
-use Rattle.table.specs.Table.{Table, put}
+use Rattle.table.specs.Table.{put}
 use Rattle.table.specs.Layout.{width, slotOf, slotBytes, slotsIn, tableOf, bytesOf}
 use Rattle.table.specs.Form.{isSlot, wellFormed}
 use Rattle.table.specs.Reply.{replySays}
@@ -21,7 +21,7 @@ use Rattle.table.specs.declared.slot.Slot.{Slot}
 use Rattle.table.specs.declared.slot.Slot.the-variants.{Free, Held}
 use Rattle.tokens.specs.Grant.{isFree, isInTheWay, roomSays, granted}
 use Rattle.tokens.specs.Ask.{entryFor}
-use Rattle.tokens.specs.Return.{typesIn, keeps, loses}
+use Rattle.tokens.specs.Return.{keeps, loses}
 use Rattle.tokens.specs.DropHost.{isHosts, dropped}
 use Rattle.tokens.specs.declared.survey.Seen.{Seen}
 

@@ -1,13 +1,13 @@
 -- Both parts of a test that passed, or failed; the elements that pass a test; what holds of each element. Assumes nothing.
 use mathlib.Core.Path.{_≡_, refl, sym, ap}
-use mathlib.Core.List.{List, [], _∷_, _++_, map}
 use mathlib.Core.Bool.{Bool, true, false, cond, not, _||_, _&&_}
+use mathlib.Core.List.{List, [], _∷_, _++_, map}
 use mathlib.Core.Logic.{_⊎_, inl, inr}
-use Prim.Native.Nat.{ℕ, suc, _≤_}
+use Prim.Native.Nat.{ℕ, zero, suc, _≤_}
 use native.Mathlib.Omega.{arith}
 use borrow.Author.Tests.{ne-eqb}
 use lib.Dec.{eqb}
-use lib.ListN.{length}
+use lib.ListN.{length, set}
 use Rattle.words.specs.Test.{anyOf, allOf, those}
 
 pub differ : true ≡ false → ⊥
@@ -87,6 +87,12 @@ module _ {A : Type 0} (P : A → Type 0) where
   each-append [] ys e f = f
   each-append (x ∷ xs) ys e f = (e .0, each-append xs ys (e .1) f)
 
+  pub each-set : (xs : List A) (i : ℕ) (x : A) → Each xs → P x → Each (set xs i x)
+  unfolding Each
+  each-set [] i x e p = tt
+  each-set (y ∷ ys) zero x e p = (p, e .1)
+  each-set (y ∷ ys) (suc i) x e p = (e .0, each-set ys i x (e .1) p)
+
 -- what follows for each element, from one property or from two
 pub each-both : {A : Type 0} {P Q R : A → Type 0} → ((x : A) → P x → Q x → R x) → (xs : List A) → Each P xs → Each Q xs → Each R xs
 unfolding Each
@@ -95,6 +101,11 @@ each-both so (x ∷ xs) e f = (so x (e .0) (f .0), each-both so xs (e .1) (f .1)
 
 pub each-so : {A : Type 0} {P Q : A → Type 0} → ((x : A) → P x → Q x) → (xs : List A) → Each P xs → Each Q xs
 each-so so xs e = each-both (λ x p q. so x p) xs e e
+
+pub each-map : {A : Type 0} (P : A → Type 0) (f : A → A) → ((x : A) → P x → P (f x)) → (xs : List A) → Each P xs → Each P (map f xs)
+unfolding Each
+each-map P f so [] e = tt
+each-map P f so (x ∷ xs) e = (so x (e .0), each-map P f so xs (e .1))
 
 module _ {A : Type 0} (test : A → Bool) where
   -- all pass, or none does

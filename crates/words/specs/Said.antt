@@ -1,6 +1,6 @@
 -- What any call says.
-use Prim.Native.Nat.{ℕ}
 use mathlib.Core.List.{List, _++_}
+use Prim.Native.Nat.{ℕ}
 use lib.ListN.{length, drop}
 
 -- done, with the values that it answers; or refused, with 01's number and the values that go with it: the place for 10 to 19, the

@@ -1,0 +1,52 @@
+-- Two outcomes that meet a statement are equal. Assumes nothing.
+use mathlib.Core.Path.{_≡_, refl, sym, _∙_}
+use mathlib.Core.Bool.{Bool}
+use mathlib.Core.List.{List, [], _∷_}
+use Prim.Native.Nat.{ℕ}
+use Rattle.words.specs.Said.{Said, done, refused}
+use Rattle.words.proofs.Determined.{same-answer}
+use Rattle.table.specs.Layout.{ReadsSlot, WritesSlot}
+use Rattle.table.specs.Form.{TellsLength, TellsOpening, TellsSlot, TellsForm}
+use Rattle.table.specs.Reply.{replySays}
+use Rattle.table.specs.Fill.{Fills}
+use Rattle.table.specs.declared.reply.Reply.{Reply}
+use Rattle.table.specs.declared.reply.Reply.the-variants.{Done, Value, Refused, Short}
+use Rattle.table.specs.declared.slot.Slot.{Slot}
+
+-- a reply by what it says
+unfoldable replyOf : Said → Reply
+replyOf (done []) = Done
+replyOf (done (n ∷ more)) = Value n
+replyOf (refused number []) = Refused number
+replyOf (refused number (count ∷ more)) = Short count
+
+reply-back : (r : Reply) → replyOf (replySays r) ≡ r
+unfolding replyOf replySays
+reply-back Done = refl
+reply-back (Value n) = refl
+reply-back (Refused number) = refl
+reply-back (Short count) = refl
+
+pub same-reply : {said : Said} (r r′ : Reply) → replySays r ≡ said → replySays r′ ≡ said → r ≡ r′
+same-reply r r′ p q = same-answer replySays replyOf reply-back r r′ p q
+
+pub is-length-determined : (n : ℕ) (r r′ : Bool) → TellsLength n r → TellsLength n r′ → r ≡ r′
+is-length-determined n r r′ p q = p .answer ∙ sym (q .answer)
+
+pub opens-determined : (bytes : List ℕ) (r r′ : Bool) → TellsOpening bytes r → TellsOpening bytes r′ → r ≡ r′
+opens-determined bytes r r′ p q = p .answer ∙ sym (q .answer)
+
+pub is-slot-determined : (slot : List ℕ) (top next : ℕ) (r r′ : Bool) → TellsSlot slot top next r → TellsSlot slot top next r′ → r ≡ r′
+is-slot-determined slot top next r r′ p q = p .answer ∙ sym (q .answer)
+
+pub well-formed-determined : (bytes : List ℕ) (r r′ : Bool) → TellsForm bytes r → TellsForm bytes r′ → r ≡ r′
+well-formed-determined bytes r r′ p q = p .answer ∙ sym (q .answer)
+
+pub read-slot-determined : (slot : List ℕ) (r r′ : Slot) → ReadsSlot slot r → ReadsSlot slot r′ → r ≡ r′
+read-slot-determined slot r r′ p q = p .answer ∙ sym (q .answer)
+
+pub write-slot-determined : (value : Slot) (slot after after′ : List ℕ) → WritesSlot value slot after → WritesSlot value slot after′ → after ≡ after′
+write-slot-determined value slot after after′ p q = p .slot-after ∙ sym (q .slot-after)
+
+pub fill-determined : (bytes : List ℕ) (r r′ : Reply) (after after′ : List ℕ) → Fills bytes r after → Fills bytes r′ after′ → (r ≡ r′) × (after ≡ after′)
+fill-determined bytes r r′ after after′ p q = (same-reply r r′ (p .answer) (q .answer), p .table-after ∙ sym (q .table-after))

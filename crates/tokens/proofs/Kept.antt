@@ -1,0 +1,133 @@
+-- After any call the bytes are well formed, or as they were. Assumes nothing.
+use mathlib.Core.Path.{_≡_, refl, sym, _∙_, ap}
+use mathlib.Core.Bool.{Bool, true, false, not, _||_, _&&_}
+use mathlib.Core.List.{List, [], _∷_}
+use mathlib.Core.Logic.{_⊎_}
+use Prim.Native.Nat.{ℕ, _^_, _≤_, _<_}
+use native.Mathlib.Omega.{arith}
+use borrow.Author.Tests.{eqb-false, ne-eqb, le-ltb, ltb-false, not-true}
+use lib.Dec.{eqb, ltb}
+use lib.ListN.{length, getD, length-set, length-map}
+use Rattle.words.specs.Test.{if_then_else_, anyOf, those}
+use Rattle.words.specs.Said.{Said, done, refused, andThen}
+use Rattle.words.specs.Number.{Bytes}
+use Rattle.words.proofs.Tests.{and-left, and-right, and-both, or-left, or-right}
+use Rattle.words.proofs.Left.{not-done}
+use Rattle.claims.specs.Types.{without}
+use Rattle.claims.specs.Claim.{withTypes, unfit, malformed}
+use Rattle.claims.specs.declared.claim.Claim.{Claim}
+use Rattle.claims.proofs.Fewer.{without-less}
+use Rattle.table.specs.Table.{Table, limit}
+use Rattle.table.specs.Layout.{tableOf}
+use Rattle.table.specs.Form.{isToken, wellFormed}
+use Rattle.table.specs.declared.reply.Reply.{Reply}
+use Rattle.table.specs.declared.slot.Slot.{Slot}
+use Rattle.table.specs.declared.slot.Slot.the-variants.{Free, Held}
+use Rattle.table.proofs.Spelled.{Fits}
+use Rattle.table.proofs.Means.{Ordered, InOrder, order-at}
+use Rattle.table.proofs.Ordering.{put-order, map-order, issue-order, left-formed}
+use Rattle.tokens.specs.Grant.{isFree, isInTheWay, lastNumber, roomSays, requestSays, serveSays, grantSays, granted, Grants}
+use Rattle.tokens.specs.Return.{keeps, loses, placeIn, tokenIn, returnSays, returned, Returns}
+use Rattle.tokens.specs.DropHost.{isHosts, freed, dropSays, dropped, Drops}
+
+-- what a grant that is done tells of the request and the numbers
+module _ (claim : Claim) (t : Table) (values : List ℕ) (e : grantSays claim t ≡ done values) where
+  shaped : malformed claim (limit t) ≡ false
+  unfolding grantSays requestSays andThen
+  shaped = go (malformed claim (limit t)) e
+    where
+      go : (b : Bool) → andThen (if b then refused 31 [] else done []) (serveSays claim t) ≡ done values → b ≡ false
+      go true q = absurd (not-done 31 [] values q)
+      go false q = refl
+
+  numbers-left : t .next ≡ 18446744073709551615 → ⊥
+  unfolding grantSays requestSays serveSays roomSays lastNumber andThen
+  numbers-left = go (malformed claim (limit t)) (anyOf (isInTheWay claim) (t .slots)) (anyOf isFree (t .slots)) (eqb (t .next) 18446744073709551615) refl e
+    where
+      go : (a b c d : Bool) → eqb (t .next) 18446744073709551615 ≡ d
+          → andThen (if a then refused 31 [] else done []) (if b then refused 32 [] else if not c then refused 33 [] else if d then refused 34 [] else done (t .next ∷ [])) ≡ done values
+          → t .next ≡ 18446744073709551615 → ⊥
+      go true b c d p q = absurd (not-done 31 [] values q)
+      go false true c d p q = absurd (not-done 32 [] values q)
+      go false false false d p q = absurd (not-done 33 [] values q)
+      go false false true true p q = absurd (not-done 34 [] values q)
+      go false false true false p q = eqb-false (t .next) 18446744073709551615 p
+
+-- a claim whose numbers are what their types hold
+pub grant-formed : {bytes : List ℕ} {claim : Claim} {r : Reply} {after : List ℕ} → Bytes bytes → Fits claim → Grants bytes claim r after
+    → (wellFormed after ≡ true) ⊎ (after ≡ bytes)
+unfolding granted
+grant-formed {bytes} {claim} all fits g =
+    left-formed (grantSays claim) (granted claim) bytes all
+    (λ t o values e. (issue-order t o _ claim (shaped claim t values e) fits (numbers-left claim t values e), length-set (t .slots) _ _))
+    (g .table-after)
+
+free-ordered : (top next : ℕ) → Ordered top next Free
+unfolding Ordered
+free-ordered top next = tt
+
+held-ordered : (top next number : ℕ) (held : Claim) (kept : ℕ) → (kept ≡ 0 → ⊥) → kept ≤ held .types → Ordered top next (Held number held)
+    → Ordered top next (Held number (withTypes held kept))
+unfolding Ordered isToken malformed unfit
+held-ordered top next number held kept some less o =
+    let numbered = ltb 0 number in
+    let early = ltb number next in
+    let host = eqb (held .host) 0 in
+    let none = eqb (held .types) 0 in
+    let high = ltb top (held .types) in
+    let back = ltb (held .last) (held .first) in
+    let front = and-left (not (host || none || high || back) && numbered) early (o .0) in
+    let shape = not-true (host || none || high || back) (and-left (not (host || none || high || back)) numbered front) in
+    let fit = or-left (host || none || high) back shape in
+    let few = ltb-false top (held .types) (or-right (host || none) high fit) in
+    let shape′ : (host || eqb kept 0 || ltb top kept || back) ≡ false =
+    rw (or-left host none (or-left (host || none) high fit), ne-eqb kept 0 some, le-ltb top kept (omega arith), or-right (host || none || high) back shape) refl in
+    let types : kept < 256 ^ 2 = omega (arith, o .1 .types) in
+    (and-both (not (host || eqb kept 0 || ltb top kept || back) && numbered) early
+    (and-both (not (host || eqb kept 0 || ltb top kept || back)) numbered (rw shape′ refl) (and-right (not (host || none || high || back)) numbered front))
+    (and-right (not (host || none || high || back) && numbered) early (o .0)),
+    record { types = types; host = o .1 .host; hi = o .1 .hi; lo = o .1 .lo; first = o .1 .first; last = o .1 .last })
+
+-- a token in order without some of its types
+fewer : (top next number : ℕ) (held : Claim) (types : ℕ) → Ordered top next (Held number held) → Ordered top next (keeps types number held)
+unfolding keeps
+fewer top next number held types o = go (eqb (without (held .types) types) 0) refl
+  where
+    go : (b : Bool) → eqb (without (held .types) types) 0 ≡ b → Ordered top next (if b then Free else Held number (withTypes held (without (held .types) types)))
+    go true q = free-ordered top next
+    go false q = held-ordered top next number held (without (held .types) types) (eqb-false (without (held .types) types) 0 q) (without-less (held .types) types) o
+
+loses-ordered : (top next types : ℕ) (slot : Slot) → Ordered top next slot → Ordered top next (loses types slot)
+unfolding loses
+loses-ordered top next types Free o = free-ordered top next
+loses-ordered top next types (Held number held) o = fewer top next number held types o
+
+there : (host number types : ℕ) (t : Table) → InOrder t → Ordered (limit t) (t .next) (tokenIn host number types t)
+unfolding tokenIn
+there host number types t o = order-at t o (placeIn host number types t)
+
+freed-ordered : (top next host : ℕ) (slot : Slot) → Ordered top next slot → Ordered top next (freed host slot)
+unfolding freed
+freed-ordered top next host slot o = go (isHosts host slot)
+  where
+    go : (b : Bool) → Ordered top next (if b then Free else slot)
+    go true = free-ordered top next
+    go false = o
+
+pub return-formed : {bytes : List ℕ} {host number types : ℕ} {r : Reply} {after : List ℕ} → Bytes bytes → Returns bytes host number types r after
+    → (wellFormed after ≡ true) ⊎ (after ≡ bytes)
+unfolding returned
+return-formed {bytes} {host} {number} {types} all g =
+    left-formed (returnSays host number types) (returned host number types) bytes all
+    (λ t o values e. (put-order t o (placeIn host number types t) (loses types (tokenIn host number types t)) (lost-ordered t o), length-set (t .slots) _ _))
+    (g .table-after)
+  where
+    lost-ordered : (t : Table) → InOrder t → Ordered (limit t) (t .next) (loses types (tokenIn host number types t))
+    lost-ordered t o = loses-ordered (limit t) (t .next) types (tokenIn host number types t) (there host number types t o)
+
+pub drop-formed : {bytes : List ℕ} {host : ℕ} {r : Reply} {after : List ℕ} → Bytes bytes → Drops bytes host r after → (wellFormed after ≡ true) ⊎ (after ≡ bytes)
+unfolding dropped
+drop-formed {bytes} {host} all g =
+    left-formed (dropSays host) (dropped host) bytes all
+    (λ t o values e. (map-order t o (freed host) (freed-ordered (limit t) (t .next) host), length-map (t .slots) (freed host)))
+    (g .table-after)
