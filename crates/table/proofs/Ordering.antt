@@ -1,25 +1,25 @@
 -- Tables in order stay in order: fresh, with a slot changed, with a number more. Assumes nothing.
-use mathlib.Core.Path.{_≡_, refl, sym, _∙_, ap}
-use mathlib.Core.Bool.{Bool, true, false, not, _&&_, _||_}
-use mathlib.Core.List.{List, [], _∷_, map}
+use mathlib.Core.Path.{_≡_, refl, sym, _∙_}
+use mathlib.Core.Bool.{Bool, true, false, not, _&&_}
+use mathlib.Core.List.{List, [], map}
 use mathlib.Core.Logic.{_⊎_, inl, inr}
-use Prim.Native.Nat.{ℕ, zero, suc, _+_, _^_, _≤_, _<_}
+use Prim.Native.Nat.{ℕ, zero, suc, _+_, _≤_}
 use native.Mathlib.Omega.{arith}
-use borrow.Author.Tests.{ltb-true, lt-ltb, not-true}
-use lib.Dec.{eqb, ltb}
-use lib.ListN.{length, getD, set, replicate, length-set, length-map, length-replicate}
+use borrow.Author.Tests.{ltb-true, lt-ltb}
+use lib.Dec.{ltb}
+use lib.ListN.{length, replicate, length-set, length-map, length-replicate}
 use Rattle.words.specs.Test.{if_then_else_}
 use Rattle.words.specs.Said.{Said, done, refused, left}
 use Rattle.words.specs.Number.{Bytes}
-use Rattle.words.proofs.Tests.{Each, each-so, each-set, each-map, and-left, and-right, and-both, differ}
+use Rattle.words.proofs.Tests.{Each, each-so, each-set, each-map, and-left, and-right, and-both}
 use Rattle.words.proofs.Left.{left-whole}
 use Rattle.claims.specs.Claim.{malformed}
 use Rattle.claims.specs.declared.claim.Claim.{Claim}
 use Rattle.table.specs.Table.{Table, limit, withSlots, put, issue}
-use Rattle.table.specs.Layout.{width, tableOf, bytesOf, count}
+use Rattle.table.specs.Layout.{tableOf, bytesOf, count}
 use Rattle.table.specs.Form.{isLength, isToken, wellFormed}
 use Rattle.table.specs.Fill.{filled, fillSays, Fills}
-use Rattle.table.specs.Call.{saysOf, leftOf}
+use Rattle.table.specs.Call.{leftOf}
 use Rattle.table.specs.declared.reply.Reply.{Reply}
 use Rattle.table.specs.declared.slot.Slot.{Slot}
 use Rattle.table.specs.declared.slot.Slot.the-variants.{Free, Held}
@@ -82,9 +82,11 @@ module _ (t : Table) (o : InOrder t) where
   unfolding limit Ordered isToken
   issue-order i claim shaped fits more =
       let next = t .next in
-      let token : Ordered (limit t) (next + 1) (Held next claim) =
-      (and-both (not (malformed claim (limit t)) && ltb 0 next) (ltb next (next + 1))
-      (and-both (not (malformed claim (limit t))) (ltb 0 next) (rw shaped refl) (lt-ltb 0 next (o .begun))) (lt-ltb next (next + 1) (omega arith)), fits) in
+      let token : Ordered (limit t) (next + 1) (Held next claim) = (
+        and-both (not (malformed claim (limit t)) && ltb 0 next) (ltb next (next + 1))
+            (and-both (not (malformed claim (limit t))) (ltb 0 next) (rw shaped refl) (lt-ltb 0 next (o .begun))) (lt-ltb next (next + 1) (omega arith)),
+        fits,
+      ) in
       record {
         some = rw (length-set (t .slots) i (Held next claim)) (o .some);
         few = rw (length-set (t .slots) i (Held next claim)) (o .few);

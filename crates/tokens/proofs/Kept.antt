@@ -1,5 +1,5 @@
 -- After any call the bytes are well formed, or as they were. Assumes nothing.
-use mathlib.Core.Path.{_≡_, refl, sym, _∙_, ap}
+use mathlib.Core.Path.{_≡_, refl}
 use mathlib.Core.Bool.{Bool, true, false, not, _||_, _&&_}
 use mathlib.Core.List.{List, [], _∷_}
 use mathlib.Core.Logic.{_⊎_}
@@ -7,9 +7,9 @@ use Prim.Native.Nat.{ℕ, _^_, _≤_, _<_}
 use native.Mathlib.Omega.{arith}
 use borrow.Author.Tests.{eqb-false, ne-eqb, le-ltb, ltb-false, not-true}
 use lib.Dec.{eqb, ltb}
-use lib.ListN.{length, getD, length-set, length-map}
-use Rattle.words.specs.Test.{if_then_else_, anyOf, those}
-use Rattle.words.specs.Said.{Said, done, refused, andThen}
+use lib.ListN.{length-set, length-map}
+use Rattle.words.specs.Test.{if_then_else_, anyOf}
+use Rattle.words.specs.Said.{done, refused, andThen}
 use Rattle.words.specs.Number.{Bytes}
 use Rattle.words.proofs.Tests.{and-left, and-right, and-both, or-left, or-right}
 use Rattle.words.proofs.Left.{not-done}
@@ -18,7 +18,6 @@ use Rattle.claims.specs.Claim.{withTypes, unfit, malformed}
 use Rattle.claims.specs.declared.claim.Claim.{Claim}
 use Rattle.claims.proofs.Fewer.{without-less}
 use Rattle.table.specs.Table.{Table, limit}
-use Rattle.table.specs.Layout.{tableOf}
 use Rattle.table.specs.Form.{isToken, wellFormed}
 use Rattle.table.specs.declared.reply.Reply.{Reply}
 use Rattle.table.specs.declared.slot.Slot.{Slot}
@@ -82,11 +81,12 @@ held-ordered top next number held kept some less o =
     let few = ltb-false top (held .types) (or-right (host || none) high fit) in
     let shape′ : (host || eqb kept 0 || ltb top kept || back) ≡ false =
     rw (or-left host none (or-left (host || none) high fit), ne-eqb kept 0 some, le-ltb top kept (omega arith), or-right (host || none || high) back shape) refl in
-    let types : kept < 256 ^ 2 = omega (arith, o .1 .types) in
-    (and-both (not (host || eqb kept 0 || ltb top kept || back) && numbered) early
-    (and-both (not (host || eqb kept 0 || ltb top kept || back)) numbered (rw shape′ refl) (and-right (not (host || none || high || back)) numbered front))
-    (and-right (not (host || none || high || back) && numbered) early (o .0)),
-    record { types = types; host = o .1 .host; hi = o .1 .hi; lo = o .1 .lo; first = o .1 .first; last = o .1 .last })
+    let types : kept < 256 ^ 2 = omega (arith, o .1 .types) in (
+      and-both (not (host || eqb kept 0 || ltb top kept || back) && numbered) early
+          (and-both (not (host || eqb kept 0 || ltb top kept || back)) numbered (rw shape′ refl) (and-right (not (host || none || high || back)) numbered front))
+          (and-right (not (host || none || high || back) && numbered) early (o .0)),
+      record { types = types; host = o .1 .host; hi = o .1 .hi; lo = o .1 .lo; first = o .1 .first; last = o .1 .last },
+    )
 
 -- a token in order without some of its types
 fewer : (top next number : ℕ) (held : Claim) (types : ℕ) → Ordered top next (Held number held) → Ordered top next (keeps types number held)

@@ -8,3 +8,5 @@ pub mod Freed
 pub mod Kept
 pub mod Count
 pub mod Determined
+pub mod Opened
+pub mod Day
