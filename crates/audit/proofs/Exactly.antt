@@ -82,13 +82,13 @@ module _ (t : Table) where
           let r = tokens-apart other number claimed claim (rw (q, p) at (pair-apart (t .slots) e j i l)) in
           (λ z. r .0 (sym z), symmetric claimed claim (r .1))
 
-  pub quiet : allApart (t .slots) ≡ true → Quiet t
+  quiet : allApart (t .slots) ≡ true → Quiet t
   quiet e = record {
     numbers-differ = λ i j number other claim claimed d p q. two e i j number other claim claimed d p q .0;
     nothing-conflicts = λ i j number other claim claimed d p q. two e i j number other claim claimed d p q .1;
   }
 
-  pub all-apart : Quiet t → allApart (t .slots) ≡ true
+  all-apart : Quiet t → allApart (t .slots) ≡ true
   all-apart q = apart-pairs (t .slots) (λ i j h. go (getD (t .slots) i Free) (getD (t .slots) j Free) i j (λ z. omega arith) refl refl)
     where
       go : (a b : Slot) (i j : ℕ) → i ≢ j → getD (t .slots) i Free ≡ a → getD (t .slots) j Free ≡ b → apart a b ≡ true

@@ -15,14 +15,14 @@ use Rattle.words.proofs.Bits.{bit-next, bit-and, bit-or}
 use Rattle.claims.specs.Types.{kinds, without, lacks}
 use Rattle.claims.proofs.Sets.{bit-zero, bit-set, in-set, some-found, some-at, empty, same-set, same-members}
 
-pub below : (n s i : ℕ) → s < 2 ^ n → bit i s ≡ true → i < n
+below : (n s i : ℕ) → s < 2 ^ n → bit i s ≡ true → i < n
 below zero s i h e = absurd (differ (sym e ∙ rw (lt-one h) (bit-zero i)))
 below (suc n) s zero h e = omega arith
 below (suc n) s (suc i) h e =
     let r : i < n = below n (s / 2) i (omega (arith, rw pow-suc at h)) (sym (bit-next i s) ∙ e) in omega arith
 
 module _ (held types : ℕ) where
-  pub in-without : (i : ℕ) → bit i (without held types) ≡ true → (bit i held ≡ true) × (bit i types ≡ false)
+  in-without : (i : ℕ) → bit i (without held types) ≡ true → (bit i held ≡ true) × (bit i types ≡ false)
   unfolding without
   in-without i e =
       let p = in-set kinds (λ j. bit j held && not (bit j types)) i e in

@@ -66,7 +66,7 @@ module _ (a b : Claim) where
         where-to (inl p) = inl p
         where-to (inr p) = inr (ends p)
 
-    pub clashes : Conflicting a b i j → clash a b i j ≡ true
+    clashes : Conflicting a b i j → clash a b i j ≡ true
     unfolding clash
     clashes s =
         let other : not (eqb (a .host) (b .host)) ≡ true = rw (ne-eqb (a .host) (b .host) (s .hosts-differ)) in

@@ -4,7 +4,7 @@ use Prim.Native.Nat.{ℕ, zero, suc, _+_, _*_}
 use Rattle.words.specs.Test.{if_then_else_}
 use Rattle.words.specs.Bit.{bit}
 
--- how many types there are: bit 1 is type 0, data read; bit 128 is type 7, open exclusive
+-- how many types there are: type 0 is bit 1, data read; type 7 is bit 128, open exclusive
 abbrev pub kinds : ℕ
 kinds = 8
 

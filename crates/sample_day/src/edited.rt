@@ -18,7 +18,7 @@ pub(crate) const A_PUT: bool = true;
 
 pub(crate) const A_DROP: bool = false;
 
-fn same(a: &[u8], b: &[u8]) -> bool {
+pub(crate) fn same(a: &[u8], b: &[u8]) -> bool {
     if a.len() != b.len() {
         return false;
     }
@@ -44,8 +44,8 @@ pub(crate) fn alike(name: &[u8], a: Draft, b: Draft) {
     text(b": no\n");
 }
 
-// Whether a part of the second buffer is as it was.
-fn kept(name: &[u8], part: &[u8]) {
+// Whether a part of a buffer is as it was.
+pub(crate) fn kept(name: &[u8], part: &[u8]) {
     let filled = [FILL; 8192];
     text(name);
     if same(part, first(&filled, part.len())) {

@@ -19,13 +19,9 @@ head-length : (kind types host : ℕ) → length (headBytes kind types host) ≡
 unfolding headBytes
 head-length kind types host = simp (length-append, digits-length)
 
-pub file-length : (file : FileId) → length (fileBytes file) ≡ 12
+file-length : (file : FileId) → length (fileBytes file) ≡ 12
 unfolding fileBytes
 file-length file = simp (length-append, digits-length)
-
-rest-length : (first last number : ℕ) → length (restBytes first last number) ≡ 24
-unfolding restBytes
-rest-length first last number = simp (length-append, digits-length)
 
 pub field-length : (kind number : ℕ) (claim : Claim) → length (fieldBytes kind number claim) ≡ width
 unfolding fieldBytes

@@ -55,7 +55,7 @@ module _ (bytes : List ℕ) where
   table-length = length-map (slotsIn bytes) slotOf ∙ slots-length
 
   module _ (i : ℕ) (h : i < count bytes) where
-    pub slots-at : getD (slotsIn bytes) i [] ≡ part (width * (i + 1)) width bytes
+    slots-at : getD (slotsIn bytes) i [] ≡ part (width * (i + 1)) width bytes
     unfolding slotsIn
     slots-at =
         let e : width + width * i ≡ width * (i + 1) = omega arith in

@@ -1,4 +1,4 @@
--- A slot read or written as a lent part of the table. Assumes nothing.
+-- A slot written as a lent part of the table. Assumes nothing.
 use mathlib.Core.Path.{_≡_, sym, _∙_, ap}
 use mathlib.Core.List.{List, append-assoc, append-nil}
 use Prim.Native.Nat.{ℕ, _+_, _-_, _≤_}
@@ -10,15 +10,12 @@ use lib.Seq.{drop-drop}
 use Rattle.words.specs.Number.{part}
 use Rattle.words.specs.Writing.{over, written}
 use Rattle.words.proofs.Digits.{lent-part, part-length}
-use Rattle.words.proofs.Written.{over-start, written-all, written-length}
-use Rattle.table.specs.Layout.{width, slotOf, slotBytes}
+use Rattle.words.proofs.Written.{over-start, written-all}
+use Rattle.table.specs.Layout.{width, slotBytes}
 use Rattle.table.specs.declared.slot.Slot.{Slot}
 use Rattle.table.proofs.Chains.{slot-length}
 
 module _ (at : ℕ) (bytes : List ℕ) (h : at + width ≤ length bytes) where
-  pub lent-read : (r : Slot) → r ≡ slotOf (take (at + width - at) (drop at bytes)) → r ≡ slotOf (part at width bytes)
-  lent-read r e = e ∙ ap slotOf (lent-part at width bytes)
-
   pub lent-written : (slot : Slot) (after : List ℕ) → after ≡ written 0 (slotBytes slot) (take (at + width - at) (drop at bytes))
       → putMid at (at + width - at) bytes after ≡ over at (slotBytes slot) bytes
   unfolding over
@@ -30,6 +27,3 @@ module _ (at : ℕ) (bytes : List ℕ) (h : at + width ≤ length bytes) where
       e ∙ ap (written 0 (slotBytes slot)) (lent-part at width bytes) ∙ written-all 0 (slotBytes slot) (part at width bytes) room ∙ over-start (slotBytes slot) (part at width bytes)
       ∙ rw (slot-length slot, drop-of-length-le (part at width bytes) (le-of-eq size)) (append-nil (slotBytes slot)) in
       rw (w, now, slot-length slot, drop-drop width at bytes) (sym (append-assoc (take at bytes) (slotBytes slot) (drop (at + width) bytes)))
-
-pub written-keeps : (slot : Slot) (s after : List ℕ) → after ≡ written 0 (slotBytes slot) s → length after ≡ length s
-written-keeps slot s after e = ap length e ∙ written-length 0 (slotBytes slot) s

@@ -19,7 +19,7 @@ isLength n = eqb (n % width) 0 && leb (width * 2) n && leb n (width * 1025)
 unfoldable pub allZero : List ℕ → Bool
 allZero bytes = allOf (λ b. eqb b 0) bytes
 
--- length and header: kind 2, 32 zero bytes, next not 0
+-- header: kind 2, 32 zero bytes, next number, which is not 0
 unfoldable pub isHeader : List ℕ → Bool
 isHeader bytes = eqb (kindOf bytes) 2 && allZero (part 1 32 bytes) && not (eqb (nextIn bytes) 0)
 
@@ -33,6 +33,7 @@ isSlot top next slot =
     eqb (length slot) width
     && (allZero slot || (eqb (kindOf slot) 1 && isToken top next (numberAt 8 33 slot) (claimOf slot)))
 
+-- length and header
 unfoldable pub opening : List ℕ → Bool
 opening bytes = isLength (length bytes) && isHeader bytes
 

@@ -20,7 +20,7 @@ width = 41
 unfoldable pub kindOf : List ℕ → ℕ
 kindOf bytes = getD bytes 0 0
 
--- kind 1, types 2, host 2, file 12, first 8, last 8, number 8
+-- after the kind: types 2, host 2, file 12, first 8, last 8, number 8
 unfoldable pub claimOf : List ℕ → Claim
 claimOf slot = record {
   types = numberAt 2 1 slot;
@@ -30,12 +30,14 @@ claimOf slot = record {
   last = numberAt 8 25 slot;
 }
 
+-- a token where the kind is 1
 unfoldable pub slotOf : List ℕ → Slot
 slotOf slot = if eqb (kindOf slot) 1 then Held (numberAt 8 33 slot) (claimOf slot) else Free
 
 unfoldable pub fileBytes : FileId → List ℕ
 fileBytes file = digits 8 (file .hi) ++ digits 4 (file .lo)
 
+-- the same fields in their order
 unfoldable pub fieldBytes : ℕ → ℕ → Claim → List ℕ
 fieldBytes kind number claim =
     (kind ∷ []) ++ digits 2 (claim .types) ++ digits 2 (claim .host) ++ fileBytes (claim .file)
@@ -69,6 +71,7 @@ headerBytes next = (2 ∷ []) ++ replicate 32 0 ++ digits 8 next
 unfoldable pub tableOf : List ℕ → Table
 tableOf bytes = record { slots = map slotOf (slotsIn bytes); next = nextIn bytes }
 
+-- pieces one after the other
 unfoldable pub joined : List (List ℕ) → List ℕ
 joined [] = []
 joined (piece ∷ pieces) = piece ++ joined pieces

@@ -17,9 +17,9 @@ ghost use Rattle.table.specs.Layout.{width, slotsIn};
 ghost use Rattle.table.specs.Form.{isLength, allZero, isToken, isSlot, TellsLength, TellsOpening, TellsSlot, TellsForm};
 
 // The lengths of a table with 1 slot and with 1,024.
-const LEAST: usize = 82;
+const LEAST: usize = WIDTH * 2;
 
-const MOST: usize = 42025;
+const MOST: usize = WIDTH * 1025;
 
 // 41 × (1 + n) bytes, n from 1 to 1,024.
 pub fn is_length(n: usize) -> bool

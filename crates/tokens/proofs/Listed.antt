@@ -25,7 +25,7 @@ use Rattle.tokens.specs.Grant.{isInTheWay}
 use Rattle.tokens.specs.Ask.{entryBytes, entryFor, inTheWay, listFor}
 use Rattle.tokens.specs.Scan.{entryIf, Lists}
 
-pub entry-length : (number host types : ℕ) → length (entryBytes number host types) ≡ 13
+entry-length : (number host types : ℕ) → length (entryBytes number host types) ≡ 13
 unfolding entryBytes
 entry-length number host types = simp (length-append, digits-length)
 
