@@ -9,7 +9,7 @@ use borrow.Author.Tests.{ltb-true, ltb-false, eqb-true, eqb-false, eq-eqb, ne-eq
 use lib.Dec.{eqb, ltb}
 use lib.ListN.{getD}
 use Rattle.words.specs.Test.{allOf}
-use Rattle.words.proofs.Tests.{Each, all-each, each-all, and-left, and-right, and-both}
+use Rattle.words.proofs.Tests.{Each, each-at, all-each, each-all, and-left, and-right, and-both}
 use Rattle.claims.specs.Rule.{conflict}
 use Rattle.claims.specs.declared.claim.Claim.{Claim}
 use Rattle.claims.proofs.Symmetry.{symmetric}
@@ -20,13 +20,7 @@ use Rattle.table.specs.declared.slot.Slot.{Slot}
 use Rattle.table.specs.declared.slot.Slot.the-variants.{Free, Held}
 use Rattle.audit.specs.Audit.{apart, allApart, sound, Quiet}
 
--- what holds of each holds at any place
-each-at : (P : Slot → Type 0) (slots : List Slot) → Each P slots → P Free → (i : ℕ) → P (getD slots i Free)
-unfolding Each
-each-at P [] e free i = free
-each-at P (s ∷ ss) e free zero = e .0
-each-at P (s ∷ ss) e free (suc i) = each-at P ss (e .1) free i
-
+-- what holds at every place holds of each
 at-each : (P : Slot → Type 0) (slots : List Slot) → ((i : ℕ) → P (getD slots i Free)) → Each P slots
 unfolding Each
 at-each P [] f = tt
@@ -46,7 +40,7 @@ pair-apart : (slots : List Slot) → allApart slots ≡ true → (i j : ℕ) →
 unfolding allApart
 pair-apart [] e i j h = free-last Free
 pair-apart (s ∷ ss) e i zero h = absurd (omega arith)
-pair-apart (s ∷ ss) e zero (suc j) h = each-at (λ other. apart s other ≡ true) ss (all-each (apart s) ss (and-left (allOf (apart s) ss) (allApart ss) e)) (free-last s) j
+pair-apart (s ∷ ss) e zero (suc j) h = each-at (λ other. apart s other ≡ true) ss Free (all-each (apart s) ss (and-left (allOf (apart s) ss) (allApart ss) e)) (free-last s) j
 pair-apart (s ∷ ss) e (suc i) (suc j) h = pair-apart ss (and-right (allOf (apart s) ss) (allApart ss) e) i j (omega arith)
 
 apart-pairs : (slots : List Slot) → ((i j : ℕ) → i < j → apart (getD slots i Free) (getD slots j Free) ≡ true) → allApart slots ≡ true

@@ -2,7 +2,7 @@
 use mathlib.Core.Path.{_≡_, refl, _∙_, ap, ap₂}
 use mathlib.Core.Bool.{Bool, true, false, not, _||_, _&&_}
 use mathlib.Core.List.{List, [], _∷_, _++_, map, append-assoc}
-use Prim.Native.Nat.{ℕ, zero, suc, _+_, _*_, _%_, _-_, _^_, _≤_, _<_}
+use Prim.Native.Nat.{ℕ, _+_, _*_, _%_, _-_, _^_, _≤_, _<_}
 use native.Mathlib.Omega.{arith}
 use borrow.Author.Tests.{eqb-false, ne-eqb, eq-eqb, le-leb, not-true, ltb-true, ltb-false}
 use lib.Dec.{eqb, leb, ltb}
@@ -11,7 +11,7 @@ use lib.Seq.{take-at, drop-at}
 use Rattle.words.specs.Test.{if_then_else_, allOf}
 use Rattle.words.specs.Number.{Bytes, number, part, numberAt}
 use Rattle.words.specs.Writing.{digits}
-use Rattle.words.proofs.Tests.{Each, each-all, and-left, and-right, and-both, or-left, or-right}
+use Rattle.words.proofs.Tests.{Each, each-at, each-all, and-left, and-right, and-both, or-left, or-right}
 use Rattle.words.proofs.Written.{number-again, number-fits}
 use Rattle.claims.specs.Claim.{unfit, malformed}
 use Rattle.claims.specs.declared.claim.Claim.{Claim}
@@ -22,9 +22,8 @@ use Rattle.table.specs.declared.slot.Slot.{Slot}
 use Rattle.table.specs.declared.slot.Slot.the-variants.{Free, Held}
 use Rattle.table.proofs.Chains.{field-length, slot-length}
 use Rattle.table.proofs.Cuts.{cut-length}
-use Rattle.table.proofs.Spelled.{Fits, Formed, blank, token, formed, slot-size, claim-again, kind-again, token-again, free-again, claim-fits, blank-kind}
+use Rattle.table.proofs.Spelled.{Fits, Formed, blank, token, formed, slot-size, claim-again, field-again, kind-again, token-again, free-again, claim-fits, blank-kind}
 use Rattle.table.proofs.Tables.{header-length, bytes-length, cut-bytes, drop-bytes, form-size, form-header, form-slots}
-use Rattle.table.proofs.Spelled as spelled
 
 -- a slot in order: free, or a token whose numbers are as wide as the bytes
 unfoldable pub Ordered : ℕ → ℕ → Slot → Type 0
@@ -56,7 +55,7 @@ module _ (top next : ℕ) (wide : next < 256 ^ 8) where
   slot-formed Free o = refl
   slot-formed (Held number claim) o =
       let h : number < 256 ^ 8 = omega (arith, below-next top next number claim (o .0)) in
-      rw (field-length 1 number claim, kind-again 1 number claim, claim-again 1 number claim (o .1), spelled.number-again 1 number claim h, o .0)
+      rw (field-length 1 number claim, kind-again 1 number claim, claim-again 1 number claim (o .1), field-again 1 number claim h, o .0)
       (either-way (allOf (λ b. eqb b 0) (fieldBytes 1 number claim)))
     where
       either-way : (b : Bool) → (b || true) ≡ true
@@ -154,14 +153,9 @@ ordered bytes h e =
     }
 
 -- any of its slots is in order; a token in order has few types
-each-at : (top next : ℕ) (slots : List Slot) (i : ℕ) → Each (Ordered top next) slots → Ordered top next (getD slots i Free)
-unfolding Each Ordered
-each-at top next [] i e = tt
-each-at top next (s ∷ ss) zero e = e .0
-each-at top next (s ∷ ss) (suc i) e = each-at top next ss i (e .1)
-
 pub order-at : (t : Table) → InOrder t → (i : ℕ) → Ordered (limit t) (t .next) (getD (t .slots) i Free)
-order-at t o i = each-at (limit t) (t .next) (t .slots) i (o .slots)
+unfolding Ordered
+order-at t o i = each-at (Ordered (limit t) (t .next)) (t .slots) Free (o .slots) tt i
 
 pub types-small : (top next number : ℕ) (claim : Claim) → Ordered top next (Held number claim) → claim .types ≤ top
 unfolding Ordered isToken malformed unfit

@@ -52,8 +52,8 @@ claim-again kind number claim f =
       last = digits-number 8 (claim .last) (f .last) k;
     })
 
-pub number-again : (kind number : ℕ) (claim : Claim) → number < 256 ^ 8 → numberAt 8 33 (fieldBytes kind number claim) ≡ number
-number-again kind number claim f = number-field kind number claim ∙ digits-number 8 number f
+pub field-again : (kind number : ℕ) (claim : Claim) → number < 256 ^ 8 → numberAt 8 33 (fieldBytes kind number claim) ≡ number
+field-again kind number claim f = number-field kind number claim ∙ digits-number 8 number f
 
 pub kind-again : (kind number : ℕ) (claim : Claim) → kindOf (fieldBytes kind number claim) ≡ kind
 unfolding kindOf fieldBytes
@@ -61,7 +61,7 @@ kind-again kind number claim = refl
 
 pub token-again : (number : ℕ) (claim : Claim) → number < 256 ^ 8 → Fits claim → slotOf (slotBytes (Held number claim)) ≡ Held number claim
 unfolding slotOf slotBytes
-token-again number claim n f = rw (kind-again 1 number claim, claim-again 1 number claim f, number-again 1 number claim n) refl
+token-again number claim n f = rw (kind-again 1 number claim, claim-again 1 number claim f, field-again 1 number claim n) refl
 
 pub free-again : slotOf (slotBytes Free) ≡ Free
 unfolding slotOf slotBytes kindOf

@@ -25,7 +25,7 @@ use Rattle.table.specs.declared.slot.Slot.the-variants.{Free}
 use Rattle.table.proofs.Cuts.{Sized, table-length}
 use Rattle.table.proofs.Tables.{form-size, bytes-table, put-bytes, bytes-at, bytes-length}
 use Rattle.table.proofs.Means.{InOrder, ordered, again-at}
-use Rattle.table.proofs.Calls.{says-ill, says-well, left-refused, left-by}
+use Rattle.table.proofs.Calls.{says-ill, says-well, refusing, left-by}
 use Rattle.tokens.specs.DropHost.{isHosts, freed, dropSays, dropped, Drops}
 use Rattle.tokens.specs.Scan.{Frees, FreesAll}
 use Rattle.tokens.proofs.Surveyed.{counted-more}
@@ -169,17 +169,16 @@ module _ (old bytes : List ℕ) (host sum i : ℕ) (c : Freeing old bytes host s
 
 -- the whole ladder
 module _ (bytes : List ℕ) (host : ℕ) where
+  refused-by : (n : ℕ) → saysOf (dropSays host) bytes ≡ refused n [] → Drops bytes host (Refused n) bytes
+  refused-by n e = let p = refusing (dropSays host) bytes (dropped host) n e in record { answer = p .0; table-after = p .1 }
+
   pub ill-formed : wellFormed bytes ≡ false → Drops bytes host (Refused 30) bytes
-  unfolding replySays
-  ill-formed ill =
-      let e = says-ill (dropSays host) bytes ill in record { answer = sym e; table-after = sym (left-refused (dropSays host) bytes (dropped host) e) }
+  ill-formed ill = refused-by 30 (says-ill (dropSays host) bytes ill)
 
   module _ (well : wellFormed bytes ≡ true) where
     pub no-host : host ≡ 0 → Drops bytes host (Refused 31) bytes
-    unfolding replySays dropSays
-    no-host z =
-        let e : saysOf (dropSays host) bytes ≡ refused 31 [] = says-well (dropSays host) bytes well ∙ rw (eq-eqb host 0 z) refl in
-        record { answer = sym e; table-after = sym (left-refused (dropSays host) bytes (dropped host) e) }
+    unfolding dropSays
+    no-host z = refused-by 31 (says-well (dropSays host) bytes well ∙ rw (eq-eqb host 0 z) refl)
 
     pub host-dropped : (host ≡ 0 → ⊥) → {n : ℕ} {after : List ℕ} → FreesAll bytes host n after → Drops bytes host (Value n) after
     unfolding replySays dropSays dropped

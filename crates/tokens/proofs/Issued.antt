@@ -27,7 +27,7 @@ use Rattle.table.specs.declared.reply.Reply.the-variants.{Value, Refused}
 use Rattle.table.specs.declared.slot.Slot.the-variants.{Held}
 use Rattle.table.proofs.Cuts.{table-length}
 use Rattle.table.proofs.Tables.{form-size, bytes-table, put-bytes, next-bytes, bytes-length}
-use Rattle.table.proofs.Calls.{says-ill, says-well, left-refused, left-by}
+use Rattle.table.proofs.Calls.{says-ill, says-well, refusing, left-by}
 use Rattle.tokens.specs.Grant.{isFree, isInTheWay, lastNumber, roomSays, requestSays, serveSays, grantSays, granted, Grants}
 use Rattle.tokens.specs.Scan.{Saw, Issues}
 use Rattle.tokens.specs.declared.survey.Seen.{Seen}
@@ -78,28 +78,25 @@ module _ (bytes : List ℕ) (claim : Claim) (well : wellFormed bytes ≡ true) {
 
 -- the whole ladder
 module _ (bytes : List ℕ) (claim : Claim) where
+  refused-by : (n : ℕ) → saysOf (grantSays claim) bytes ≡ refused n [] → Grants bytes claim (Refused n) bytes
+  refused-by n e = let p = refusing (grantSays claim) bytes (granted claim) n e in record { answer = p .0; table-after = p .1 }
+
   pub ill-formed : wellFormed bytes ≡ false → Grants bytes claim (Refused 30) bytes
-  unfolding replySays
-  ill-formed ill =
-      let e = says-ill (grantSays claim) bytes ill in record { answer = sym e; table-after = sym (left-refused (grantSays claim) bytes (granted claim) e) }
+  ill-formed ill = refused-by 30 (says-ill (grantSays claim) bytes ill)
 
   module _ (well : wellFormed bytes ≡ true) {b : Bool} (told : b ≡ malformed claim 255) where
     pub misshapen : b ≡ true → Grants bytes claim (Refused 31) bytes
-    unfolding replySays grantSays requestSays limit andThen
-    misshapen bad =
-        let e : saysOf (grantSays claim) bytes ≡ refused 31 [] = says-well (grantSays claim) bytes well ∙ rw (← told, bad) refl in
-        record { answer = sym e; table-after = sym (left-refused (grantSays claim) bytes (granted claim) e) }
+    unfolding grantSays requestSays limit andThen
+    misshapen bad = refused-by 31 (says-well (grantSays claim) bytes well ∙ rw (← told, bad) refl)
 
     module _ (shaped : b ≡ false) {seen : Seen} (saw : Saw (tableOf bytes .slots) claim seen) where
       some-way : anyOf (isInTheWay claim) (tableOf bytes .slots) ≡ not (eqb (seen .conflicts) 0)
       some-way = any-those (isInTheWay claim) (tableOf bytes .slots) ∙ rw (← saw .conflicts) refl
 
       pub in-conflict : (seen .conflicts ≡ 0 → ⊥) → Grants bytes claim (Refused 32) bytes
-      unfolding replySays grantSays requestSays serveSays limit andThen
+      unfolding grantSays requestSays serveSays limit andThen
       in-conflict some =
-          let e : saysOf (grantSays claim) bytes ≡ refused 32 [] =
-          says-well (grantSays claim) bytes well ∙ rw (← told, shaped, some-way, ne-eqb (seen .conflicts) 0 some) refl in
-          record { answer = sym e; table-after = sym (left-refused (grantSays claim) bytes (granted claim) e) }
+          refused-by 32 (says-well (grantSays claim) bytes well ∙ rw (← told, shaped, some-way, ne-eqb (seen .conflicts) 0 some) refl)
 
       pub by-room : seen .conflicts ≡ 0 → {r : Reply} {after : List ℕ} → Issues bytes claim r after → Grants bytes claim r after
       unfolding grantSays requestSays serveSays limit andThen

@@ -31,7 +31,7 @@ use Rattle.table.specs.declared.slot.Slot.the-variants.{Free, Held}
 use Rattle.table.proofs.Cuts.{table-length, table-at}
 use Rattle.table.proofs.Tables.{form-size, bytes-table, put-bytes, bytes-length}
 use Rattle.table.proofs.Means.{ordered, types-small, order-at}
-use Rattle.table.proofs.Calls.{says-ill, says-well, left-refused, left-by}
+use Rattle.table.proofs.Calls.{says-ill, says-well, refusing, left-by}
 use Rattle.tokens.specs.Return.{isOf, typesIn, keeps, loses, placeIn, tokenIn, returnSays, returned, Returns}
 use Rattle.tokens.specs.Scan.{lossSays, LosesFrom, slotSays, Loses}
 
@@ -111,17 +111,17 @@ says-held types n held = refl
 
 -- the whole ladder
 module _ (bytes : List ℕ) (host number types : ℕ) where
-  refusing : (n : ℕ) → saysOf (returnSays host number types) bytes ≡ refused n [] → Returns bytes host number types (Refused n) bytes
-  unfolding replySays
-  refusing n e = record { answer = sym e; table-after = sym (left-refused (returnSays host number types) bytes (returned host number types) e) }
+  refused-by : (n : ℕ) → saysOf (returnSays host number types) bytes ≡ refused n [] → Returns bytes host number types (Refused n) bytes
+  refused-by n e =
+      let p = refusing (returnSays host number types) bytes (returned host number types) n e in record { answer = p .0; table-after = p .1 }
 
   pub ill-formed : wellFormed bytes ≡ false → Returns bytes host number types (Refused 30) bytes
-  ill-formed ill = refusing 30 (says-ill (returnSays host number types) bytes ill)
+  ill-formed ill = refused-by 30 (says-ill (returnSays host number types) bytes ill)
 
   module _ (well : wellFormed bytes ≡ true) {b : Bool} (told : b ≡ unfit host types 255) where
     pub misshapen : b ≡ true → Returns bytes host number types (Refused 31) bytes
     unfolding returnSays limit
-    misshapen bad = refusing 31 (says-well (returnSays host number types) bytes well ∙ rw (← told, bad) refl)
+    misshapen bad = refused-by 31 (says-well (returnSays host number types) bytes well ∙ rw (← told, bad) refl)
 
     module _ (shaped : b ≡ false) {i : ℕ} (place : i ≡ placeOf (isOf host number) (tableOf bytes .slots)) where
       pub types-few : types ≤ 255
@@ -133,7 +133,7 @@ module _ (bytes : List ℕ) (host number types : ℕ) where
 
       pub no-such-token : count bytes ≤ i → Returns bytes host number types (Refused 36) bytes
       unfolding returnSays limit
-      no-such-token h = refusing 36 (says-well (returnSays host number types) bytes well ∙ rw (← told, shaped, found, le-ltb i (count bytes) h) refl)
+      no-such-token h = refused-by 36 (says-well (returnSays host number types) bytes well ∙ rw (← told, shaped, found, le-ltb i (count bytes) h) refl)
 
       pub loses-there : i < count bytes → {r : Reply} {after : List ℕ} → Loses bytes i types r after → Returns bytes host number types r after
       unfolding returnSays limit returned tokenIn placeIn

@@ -78,11 +78,11 @@ module _ (bytes : List ℕ) (claim : Claim) (top next : ℕ) where
         let all : take i (tableOf bytes .slots) ≡ tableOf bytes .slots = take-all i (tableOf bytes .slots) (rw (table-length bytes) h) in
         record { formed = so-far .formed ∙ all-checked bytes top next i (so-far .checked) h; saw = λ e. rw all at (so-far .saw) }
 
-  -- of the whole table
-  module _ {b : Bool} (told : b ≡ opening bytes) where
-    pub no-survey : b ≡ false → Surveys bytes claim (record { formed = false; conflicts = 0; free = 0 })
-    unfolding wellFormed
-    no-survey bad = record { formed = rw (← told, bad) refl; saw = λ e. absurd (differ (sym e)) }
+-- of the whole table
+pub no-survey : (bytes : List ℕ) (claim : Claim) {b : Bool} → b ≡ opening bytes → b ≡ false
+    → Surveys bytes claim (record { formed = false; conflicts = 0; free = 0 })
+unfolding wellFormed
+no-survey bytes claim told bad = record { formed = rw (← told, bad) refl; saw = λ e. absurd (differ (sym e)) }
 
 pub whole-survey : (bytes : List ℕ) (claim : Claim) {b : Bool} → b ≡ opening bytes → b ≡ true → {r : Seen}
     → SurveysSlots bytes claim (limit (tableOf bytes)) (nextIn bytes) r → Surveys bytes claim r

@@ -97,22 +97,22 @@ others =
     ∷ []
 
 -- the conflicting types of what is held
-unfoldable pub against : ℕ → ℕ → ℕ → ℕ → ℕ → ℕ → ℕ → Line
-against held first last asked from to types = line (done (conflict (claim 1 held first last) (claim 2 asked from to) ∷ [])) (done (types ∷ []))
+unfoldable pub between : ℕ → ℕ → ℕ → ℕ → ℕ → ℕ → ℕ → Line
+between held first last asked from to types = line (done (conflict (claim 1 held first last) (claim 2 asked from to) ∷ [])) (done (types ∷ []))
 
 unfoldable pub ours : List Line
 ours =
-    against 2 0 99 1 99 99 2
-    ∷ against 2 0 99 1 100 100 0
-    ∷ against 1 0 99 1 0 99 0
-    ∷ against 3 0 99 1 0 99 2
-    ∷ against 3 0 99 2 0 99 3
-    ∷ against 1 0 99 2 0 99 1
-    ∷ against 48 5 5 16 6 6 0
-    ∷ against 48 5 6 16 6 6 32
-    ∷ against 204 0 0 204 9 9 204
-    ∷ against 64 0 0 64 9 9 0
-    ∷ against 2 0 9 8 0 9 0
+    between 2 0 99 1 99 99 2
+    ∷ between 2 0 99 1 100 100 0
+    ∷ between 1 0 99 1 0 99 0
+    ∷ between 3 0 99 1 0 99 2
+    ∷ between 3 0 99 2 0 99 3
+    ∷ between 1 0 99 2 0 99 1
+    ∷ between 48 5 5 16 6 6 0
+    ∷ between 48 5 6 16 6 6 32
+    ∷ between 204 0 0 204 9 9 204
+    ∷ between 64 0 0 64 9 9 0
+    ∷ between 2 0 9 8 0 9 0
     ∷ line (done (conflict (claim 1 255 0 9) (claim 1 255 0 9) ∷ [])) (done (0 ∷ []))
     ∷ line (grants (claim 0 1 0 0) empty) (refused 31 [])
     ∷ line (grants (claim 1 0 0 0) empty) (refused 31 [])

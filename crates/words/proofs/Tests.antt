@@ -7,7 +7,7 @@ use Prim.Native.Nat.{ℕ, zero, suc, _≤_}
 use native.Mathlib.Omega.{arith}
 use borrow.Author.Tests.{ne-eqb}
 use lib.Dec.{eqb}
-use lib.ListN.{length, set}
+use lib.ListN.{length, getD, set}
 use Rattle.words.specs.Test.{anyOf, allOf, those}
 
 pub differ : true ≡ false → ⊥
@@ -92,6 +92,13 @@ module _ {A : Type 0} (P : A → Type 0) where
   each-set [] i x e p = tt
   each-set (y ∷ ys) zero x e p = (p, e .1)
   each-set (y ∷ ys) (suc i) x e p = (e .0, each-set ys i x (e .1) p)
+
+  -- at any place, where it holds of what stands for none
+  pub each-at : (xs : List A) (d : A) → Each xs → P d → (i : ℕ) → P (getD xs i d)
+  unfolding Each
+  each-at [] d e p i = p
+  each-at (x ∷ xs) d e p zero = e .0
+  each-at (x ∷ xs) d e p (suc i) = each-at xs d (e .1) p i
 
 -- what follows for each element, from one property or from two
 pub each-both : {A : Type 0} {P Q R : A → Type 0} → ((x : A) → P x → Q x → R x) → (xs : List A) → Each P xs → Each Q xs → Each R xs
