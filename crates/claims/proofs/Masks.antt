@@ -19,7 +19,8 @@ use Rattle.claims.proofs.Sets.{bit-set, set-below, in-set, some-found, 
 unfoldable masked : ℕ → ℕ
 masked types = bitOr (bitAnd types 85 * 2) (bitOr (bitAnd types 170) (bitAnd types 170 / 2))
 
-low : (types mask : ℕ) → mask < 256 → bitAnd types mask ≡ bitAnd (types % 256) mask
+-- a mask below 256 sees the bits below 256 alone
+pub low : (types mask : ℕ) → mask < 256 → bitAnd types mask ≡ bitAnd (types % 256) mask
 low types mask h =
     let e : bitAnd types mask % 256 ≡ bitAnd (types % 256) (mask % 256) = and-mod types mask 8 in
     let m : mask % 256 ≡ mask = omega arith in
@@ -31,7 +32,7 @@ unfolding masked
 masked-low types = rw (low types 85 (omega arith), low types 170 (omega arith)) refl
 
 -- the bits that count are those below 256
-bit-low : (i types : ℕ) → i < 8 → bit i types ≡ bit i (types % 256)
+pub bit-low : (i types : ℕ) → i < 8 → bit i types ≡ bit i (types % 256)
 unfolding setBelow
 bit-low i types h =
     let e : bit i 255 ≡ true = bit-set 8 (λ j. true) i h in

@@ -136,8 +136,9 @@ pub(crate) fn told(answer: Reply, word: &[u8]) -> u64 {
             counted(b"refused ", number as u64);
             0
         }
-        Reply::Short { count } => {
-            counted(b"refused 35, count ", count);
+        Reply::RefusedWith { number, value } => {
+            counted(b"refused ", number as u64);
+            counted(b", count ", value);
             0
         }
     }

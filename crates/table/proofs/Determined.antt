@@ -10,7 +10,7 @@ use Rattle.table.specs.Form.{TellsLength, TellsOpening, TellsSlot, Tells
 use Rattle.table.specs.Reply.{replySays}
 use Rattle.table.specs.Fill.{Fills}
 use Rattle.table.specs.declared.reply.Reply.{Reply}
-use Rattle.table.specs.declared.reply.Reply.the-variants.{Done, Value, Refused, Short}
+use Rattle.table.specs.declared.reply.Reply.the-variants.{Done, Value, Refused, RefusedWith}
 use Rattle.table.specs.declared.slot.Slot.{Slot}
 
 -- a reply by what it says
@@ -18,14 +18,14 @@ unfoldable replyOf : Said → Reply
 replyOf (done []) = Done
 replyOf (done (n ∷ more)) = Value n
 replyOf (refused number []) = Refused number
-replyOf (refused number (count ∷ more)) = Short count
+replyOf (refused number (value ∷ more)) = RefusedWith number value
 
 reply-back : (r : Reply) → replyOf (replySays r) ≡ r
 unfolding replyOf replySays
 reply-back Done = refl
 reply-back (Value n) = refl
 reply-back (Refused number) = refl
-reply-back (Short count) = refl
+reply-back (RefusedWith number value) = refl
 
 pub same-reply : {said : Said} (r r′ : Reply) → replySays r ≡ said → replySays r′ ≡ said → r ≡ r′
 same-reply r r′ p q = same-answer replySays replyOf reply-back r r′ p q

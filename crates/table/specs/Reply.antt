@@ -2,10 +2,10 @@
 use mathlib.Core.List.{[], _∷_}
 use Rattle.words.specs.Said.{Said, done, refused}
 use Rattle.table.specs.declared.reply.Reply.{Reply}
-use Rattle.table.specs.declared.reply.Reply.the-variants.{Done, Value, Refused, Short}
+use Rattle.table.specs.declared.reply.Reply.the-variants.{Done, Value, Refused, RefusedWith}
 
 unfoldable pub replySays : Reply → Said
 replySays Done = done []
 replySays (Value n) = done (n ∷ [])
 replySays (Refused number) = refused number []
-replySays (Short count) = refused 35 (count ∷ [])
+replySays (RefusedWith number value) = refused number (value ∷ [])

@@ -4,6 +4,6 @@ pub enum Reply {
     // Done, with a number or a count.
     Value(u64),
     Refused { number: u8 },
-    // 35: the list buffer is too short for so many entries.
-    Short { count: u64 },
+    // Refused, with the place for 10 to 19, or for 35 the true count.
+    RefusedWith { number: u8, value: u64 },
 }

@@ -18,7 +18,7 @@ use Rattle.table.specs.Form.{wellFormed}
 use Rattle.table.specs.Reply.{replySays}
 use Rattle.table.specs.Call.{saysOf}
 use Rattle.table.specs.declared.reply.Reply.{Reply}
-use Rattle.table.specs.declared.reply.Reply.the-variants.{Value, Refused, Short}
+use Rattle.table.specs.declared.reply.Reply.the-variants.{Value, Refused, RefusedWith}
 use Rattle.table.proofs.Cuts.{table-length}
 use Rattle.table.proofs.Tables.{form-size}
 use Rattle.table.proofs.Calls.{says-ill, says-well}
@@ -56,7 +56,7 @@ module _ (bytes : List ℕ) (claim : Claim) (out : List ℕ) where
       unfolding askSays requestSays limit andThen
       own = says-well (askSays claim out) bytes well ∙ rw (← told, shaped) refl
 
-      pub too-short : length out < 13 * seen .conflicts → Asks bytes claim out (Short (seen .conflicts)) out
+      pub too-short : length out < 13 * seen .conflicts → Asks bytes claim out (RefusedWith 35 (seen .conflicts)) out
       unfolding replySays listSays inTheWay
       too-short h =
           refusing 35 (seen .conflicts ∷ []) refl

@@ -8,6 +8,7 @@ use table::Reply;
 use table::Slot;
 use table::WIDTH;
 use table::read_slot;
+use table::refusal::LIST_TOO_SHORT;
 use table::refusal::MALFORMED;
 use table::refusal::NOT_WELL_FORMED;
 use words::write_number16;
@@ -91,8 +92,9 @@ pub fn ask(table: &[u8], claim: Claim, out: &mut [u8]) -> Reply
     }
     let end = ENTRY * seen.conflicts;
     if out.len() < end {
-        return Reply::Short {
-            count: seen.conflicts as u64,
+        return Reply::RefusedWith {
+            number: LIST_TOO_SHORT,
+            value: seen.conflicts as u64,
         };
     }
     list_all(table, claim, out, end);

@@ -1,11 +1,10 @@
 -- A lent buffer after a call. Assumes nothing.
 use mathlib.Core.Path.{_≡_, sym, _∙_, ap}
-use mathlib.Core.Bool.{Bool, true, false}
 use mathlib.Core.List.{List, _++_, append-nil}
 use Prim.Native.Nat.{ℕ}
 use native.Mathlib.Nat.{le-of-eq}
 use lib.ListN.{length, drop-of-length-le}
-use Rattle.words.specs.Said.{Said, done, refused, left}
+use Rattle.words.specs.Said.{Said, done, refused, isDone, left}
 use Rattle.words.proofs.Tests.{differ}
 
 -- new bytes that fill it
@@ -14,10 +13,6 @@ unfolding left
 left-whole values new old e = ap (λ (xs : List ℕ). new ++ xs) (drop-of-length-le old (le-of-eq (sym e))) ∙ append-nil new
 
 -- a refusal is not done
-unfoldable isDone : Said → Bool
-isDone (done values) = true
-isDone (refused number values) = false
-
 pub not-done : (number : ℕ) (v w : List ℕ) → refused number v ≡ done w → ⊥
 unfolding isDone
 not-done number v w e = differ (sym (ap isDone e))

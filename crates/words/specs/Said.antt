@@ -1,4 +1,5 @@
 -- What any call says.
+use mathlib.Core.Bool.{Bool, true, false}
 use mathlib.Core.List.{List, _++_}
 use Prim.Native.Nat.{ℕ}
 use lib.ListN.{length, drop}
@@ -8,6 +9,10 @@ use lib.ListN.{length, drop}
 pub data Said : Type 0 where
   done : List ℕ → Said
   refused : ℕ → List ℕ → Said
+
+unfoldable pub isDone : Said → Bool
+isDone (done values) = true
+isDone (refused number values) = false
 
 -- the first of two that refuses
 unfoldable pub andThen : Said → Said → Said

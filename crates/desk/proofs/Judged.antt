@@ -1,0 +1,135 @@
+-- A request that is permitted goes on to the call's own; one that is not is refused after 30 and 31. Assumes nothing.
+use mathlib.Core.Path.{_≡_, refl, sym, _∙_}
+use mathlib.Core.Bool.{Bool, true, false}
+use mathlib.Core.List.{List, []}
+use mathlib.Core.Logic.{_≢_}
+use Prim.Native.Nat.{ℕ}
+use borrow.Author.Tests.{eq-eqb, ne-eqb}
+use lib.Bits.{bitAnd}
+use Rattle.words.specs.Test.{if_then_else_}
+use Rattle.words.specs.Said.{Said, done, refused, isDone, andThen, left}
+use Rattle.words.proofs.Tests.{differ}
+use Rattle.claims.specs.Claim.{malformed}
+use Rattle.claims.specs.declared.claim.Claim.{Claim}
+use Rattle.table.specs.Table.{Table, limit}
+use Rattle.table.specs.Layout.{tableOf}
+use Rattle.table.specs.Form.{wellFormed}
+use Rattle.table.specs.Reply.{replySays}
+use Rattle.table.specs.Call.{saysOf, leftOf}
+use Rattle.table.specs.declared.reply.Reply.{Reply}
+use Rattle.table.specs.declared.reply.Reply.the-variants.{Done, Refused}
+use Rattle.table.proofs.Calls.{says-ill, says-well}
+use Rattle.tokens.specs.Grant.{requestSays, serveSays, granted, grantSays as plainGrantSays, Grants as GrantsPlain}
+use Rattle.tokens.specs.Ask.{listFor, listSays, askSays as plainAskSays, Asks as AsksPlain}
+use Rattle.desk.specs.Access.{Access, sufficient, accessSays}
+use Rattle.desk.specs.Order.{inOrder, Refuses}
+use Rattle.desk.specs.Grant.{grantSays, Grants}
+use Rattle.desk.specs.Ask.{askSays, Asks}
+
+-- 24, or not, by the test as the code makes it
+module _ (rights needs : ℕ) where
+  pub missing : bitAnd rights needs ≢ needs → replySays (Refused 24) ≡ sufficient rights needs
+  unfolding replySays sufficient
+  missing e = rw (ne-eqb (bitAnd rights needs) needs e) refl
+
+  pub enough : bitAnd rights needs ≡ needs → replySays Done ≡ sufficient rights needs
+  unfolding replySays sufficient
+  enough e = rw (eq-eqb (bitAnd rights needs) needs e) refl
+
+-- what is refused leaves a buffer as it was
+kept : (said : Said) (new old : List ℕ) → isDone said ≡ false → left said new old ≡ old
+unfolding isDone left
+kept (done values) new old e = absurd (differ e)
+kept (refused number values) new old e = refl
+
+-- whatever comes first, a verdict that is done lets the call's own follow, and one that is not stands
+follows : (first verdict own : Said) → isDone verdict ≡ true → andThen first (andThen verdict own) ≡ andThen first own
+unfolding isDone andThen
+follows first (done values) own e = refl
+follows first (refused number values) own e = absurd (differ (sym e))
+
+stands : (first verdict own : Said) → isDone verdict ≡ false → andThen first (andThen verdict own) ≡ andThen first verdict
+unfolding isDone andThen
+stands first (done values) own e = absurd (differ e)
+stands first (refused number values) own e = refl
+
+refuses : (first verdict : Said) → isDone verdict ≡ false → isDone (andThen first verdict) ≡ false
+unfolding isDone andThen
+refuses (done values) verdict e = e
+refuses (refused number values) verdict e = refl
+
+module _ (bytes : List ℕ) (claim : Claim) where
+  module _ (verdict : Said) (own : Table → Said) where
+    permitted-says : isDone verdict ≡ true → saysOf (inOrder claim verdict own) bytes ≡ saysOf (λ t. andThen (requestSays claim t) (own t)) bytes
+    unfolding saysOf inOrder
+    permitted-says e = rw (follows (requestSays claim (tableOf bytes)) verdict (own (tableOf bytes)) e) refl
+
+    refused-says : isDone verdict ≡ false → saysOf (inOrder claim verdict own) bytes ≡ saysOf (λ t. andThen (requestSays claim t) verdict) bytes
+    unfolding saysOf inOrder
+    refused-says e = rw (stands (requestSays claim (tableOf bytes)) verdict (own (tableOf bytes)) e) refl
+
+    is-refused : isDone verdict ≡ false → isDone (saysOf (inOrder claim verdict own) bytes) ≡ false
+    unfolding saysOf isDone
+    is-refused e = rw (refused-says e) (go (wellFormed bytes))
+      where
+        go : (b : Bool) → isDone (if b then andThen (requestSays claim (tableOf bytes)) verdict else refused 30 []) ≡ false
+        go true = refuses (requestSays claim (tableOf bytes)) verdict e
+        go false = refl
+
+  -- 30, 31 and then the verdict
+  module _ (verdict : Reply) where
+    module _ {formed : Bool} (told : formed ≡ wellFormed bytes) where
+      pub ill-formed : formed ≡ false → Refuses bytes claim verdict (Refused 30)
+      unfolding replySays
+      ill-formed e = record { answer = sym (says-ill (λ t. andThen (requestSays claim t) (replySays verdict)) bytes (sym told ∙ e)) }
+
+      module _ (well : formed ≡ true) {bad : Bool} (shaped : bad ≡ malformed claim 255) where
+        judged : (b : Bool) → bad ≡ b → saysOf (λ t. andThen (requestSays claim t) (replySays verdict)) bytes ≡ andThen (if b then refused 31 [] else done []) (replySays verdict)
+        unfolding requestSays limit
+        judged b e = says-well (λ t. andThen (requestSays claim t) (replySays verdict)) bytes (sym told ∙ well) ∙ rw (sym shaped ∙ e) refl
+
+        pub misshapen : bad ≡ true → Refuses bytes claim verdict (Refused 31)
+        unfolding replySays andThen
+        misshapen e = record { answer = sym (judged true e) }
+
+        pub by-verdict : bad ≡ false → Refuses bytes claim verdict verdict
+        unfolding andThen
+        by-verdict e = record { answer = sym (judged false e) }
+
+  module _ (access : Access) (verdict : Reply) (judge : replySays verdict ≡ accessSays access (claim .types)) where
+    module _ (permitted : isDone (replySays verdict) ≡ true) where
+      fine : isDone (accessSays access (claim .types)) ≡ true
+      fine = rw (← judge) permitted
+
+      pub granting : {r : Reply} {after : List ℕ} → GrantsPlain bytes claim r after → Grants bytes claim access r after
+      unfolding grantSays plainGrantSays leftOf
+      granting g =
+          let e = permitted-says (accessSays access (claim .types)) (serveSays claim) fine in
+          record { answer = g .answer ∙ sym e; table-after = g .table-after ∙ rw e refl }
+
+      pub asking : {out after : List ℕ} {r : Reply} → AsksPlain bytes claim out r after → Asks bytes claim access out r after
+      unfolding askSays plainAskSays
+      asking {out} a =
+          let e = permitted-says (accessSays access (claim .types)) (listSays claim out) fine in
+          record { answer = a .answer ∙ sym e; out-after = a .out-after ∙ rw e refl }
+
+    module _ (denied : isDone (replySays verdict) ≡ false) {r : Reply} (refusal : Refuses bytes claim verdict r) where
+      wrong : isDone (accessSays access (claim .types)) ≡ false
+      wrong = rw (← judge) denied
+
+      says : (own : Table → Said) → replySays r ≡ saysOf (inOrder claim (accessSays access (claim .types)) own) bytes
+      says own = refusal .answer ∙ rw judge (sym (refused-says (accessSays access (claim .types)) own wrong))
+
+      pub not-granting : Grants bytes claim access r bytes
+      unfolding grantSays leftOf
+      not-granting = record {
+        answer = says (serveSays claim);
+        table-after = sym (kept (saysOf (grantSays claim access) bytes) _ bytes (is-refused (accessSays access (claim .types)) (serveSays claim) wrong));
+      }
+
+      pub not-asking : {out : List ℕ} → Asks bytes claim access out r out
+      unfolding askSays
+      not-asking {out} = record {
+        answer = says (listSays claim out);
+        out-after = sym (kept (saysOf (askSays claim access out) bytes) _ out (is-refused (accessSays access (claim .types)) (listSays claim out) wrong));
+      }

@@ -1,0 +1,19 @@
+use mathlib.Core.Path.{sym, _∙_}
+use borrow.Author.Tests.{not-true, not-false}
+use Rattle.desk.specs.Access.{accessOf}
+use Rattle.desk.proofs.Judged.{asking, not-asking}
+use borrow.Author.Needs.{needs}
+use Rattle.desk.proofs.asking.ask.Statement.{statement}
+use Rattle.desk.proofs.asking.ask.Tie as tie
+
+pub ask-spec : {M : Type 1} → statement M
+ask-spec =
+    tie.close
+    (tie.spec
+    (λ c κs. search needs)
+    (λ c κs. search needs)
+    (λ c κs. search needs)
+    (λ c. not-asking (c .before .before .before .before .before .before .before .before .args .table .now) (c .before .before .before .before .before .before .before .before .args .claim) (accessOf (c .before .before .before .before .before .before .before .before .args .list .now) (c .before .before .before .before .before .before .before .before .args .groups .now) (c .before .before .before .before .before .before .before .before .args .caller) (c .before .before .before .before .before .before .before .before .args .file) (c .before .before .before .before .before .before .before .before .args .guard)) (c .before .before .before .judge .result) (c .before .before .before .judge .ensures .answer) (sym (c .before .before .is-permitted .ensures) ∙ not-true _ (c .before .if1 .taken)) (c .refuse .ensures))
+    (λ c κs. search needs)
+    (λ c. search needs)
+    (λ c. asking (c .before .before .before .before .before .before .before .before .before .before .before .args .table .now) (c .before .before .before .before .before .before .before .before .before .before .before .args .claim) (accessOf (c .before .before .before .before .before .before .before .before .before .before .before .args .list .now) (c .before .before .before .before .before .before .before .before .before .before .before .args .groups .now) (c .before .before .before .before .before .before .before .before .before .before .before .args .caller) (c .before .before .before .before .before .before .before .before .before .before .before .args .file) (c .before .before .before .before .before .before .before .before .before .before .before .args .guard)) (c .before .before .before .before .before .before .judge .result) (c .before .before .before .before .before .before .judge .ensures .answer) (sym (c .before .before .before .before .before .is-permitted .ensures) ∙ not-false _ (c .before .before .before .before .if1 .left)) (c .before .before .ask .ensures)))

@@ -1,0 +1,5 @@
+pub mod Needs
+pub mod Access
+pub mod Order
+pub mod Grant
+pub mod Ask

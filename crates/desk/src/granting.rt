@@ -1,0 +1,30 @@
+// Granting a token to a caller who may have it.
+use crate::judging::is_permitted;
+use crate::judging::judge;
+use crate::judging::refuse;
+use claims::Claim;
+use evaluate::Caller;
+use evaluate::File;
+use rights::Guard;
+use table::Reply;
+ghost use Rattle.desk.specs.Access.{accessOf};
+ghost use Rattle.desk.specs.Grant.{Grants};
+
+// The answer is the new token's number.
+pub fn grant(
+    table: &mut [u8],
+    claim: Claim,
+    list: &[u8],
+    groups: &[u32],
+    caller: Caller,
+    file: File,
+    guard: Guard,
+) -> Reply
+    ensures { λ r. ⌜ Grants (now (table .entry)) claim (accessOf (now (list .entry)) (now (groups .entry)) caller file guard) r (now (table .exit)) ⌝ }
+{
+    let verdict = judge(list, groups, caller, file, guard, claim.types);
+    if !is_permitted(verdict) {
+        return refuse(table, claim, verdict);
+    }
+    tokens::grant(table, claim)
+}

@@ -1,0 +1,11 @@
+// The calls as the paper has them: ask and grant with access judged.
+mod asking;
+mod granting;
+mod judging;
+mod needs;
+pub mod refusal;
+
+pub use asking::ask;
+pub use granting::grant;
+pub use judging::judge;
+pub use needs::needed_rights;
