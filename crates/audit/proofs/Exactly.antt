@@ -26,12 +26,12 @@ unfolding Each
 at-each P [] f = tt
 at-each P (s ∷ ss) f = (f 0, at-each P ss (λ i. f (suc i)))
 
-free-last : (slot : Slot) → apart slot Free ≡ true
+pub free-last : (slot : Slot) → apart slot Free ≡ true
 unfolding apart
 free-last Free = refl
 free-last (Held number claim) = refl
 
-from-free : (slot : Slot) → apart Free slot ≡ true
+pub from-free : (slot : Slot) → apart Free slot ≡ true
 unfolding apart
 from-free slot = refl
 
@@ -43,7 +43,7 @@ pair-apart (s ∷ ss) e i zero h = absurd (omega arith)
 pair-apart (s ∷ ss) e zero (suc j) h = each-at (λ other. apart s other ≡ true) ss Free (all-each (apart s) ss (and-left (allOf (apart s) ss) (allApart ss) e)) (free-last s) j
 pair-apart (s ∷ ss) e (suc i) (suc j) h = pair-apart ss (and-right (allOf (apart s) ss) (allApart ss) e) i j (omega arith)
 
-apart-pairs : (slots : List Slot) → ((i j : ℕ) → i < j → apart (getD slots i Free) (getD slots j Free) ≡ true) → allApart slots ≡ true
+pub apart-pairs : (slots : List Slot) → ((i j : ℕ) → i < j → apart (getD slots i Free) (getD slots j Free) ≡ true) → allApart slots ≡ true
 unfolding allApart
 apart-pairs [] f = refl
 apart-pairs (s ∷ ss) f =
@@ -52,14 +52,14 @@ apart-pairs (s ∷ ss) f =
     (apart-pairs ss (λ i j h. f (suc i) (suc j) (omega arith)))
 
 module _ (number other : ℕ) (claim claimed : Claim) where
-  tokens-apart : apart (Held number claim) (Held other claimed) ≡ true → (number ≢ other) × (conflict claim claimed ≡ 0)
+  pub tokens-apart : apart (Held number claim) (Held other claimed) ≡ true → (number ≢ other) × (conflict claim claimed ≡ 0)
   unfolding apart
   tokens-apart e =
       let d = not (eqb number other) in
       let n = eqb (conflict claim claimed) 0 in
       (eqb-false number other (not-true (eqb number other) (and-left d n e)), eqb-true (conflict claim claimed) 0 (and-right d n e))
 
-  apart-tokens : number ≢ other → conflict claim claimed ≡ 0 → apart (Held number claim) (Held other claimed) ≡ true
+  pub apart-tokens : number ≢ other → conflict claim claimed ≡ 0 → apart (Held number claim) (Held other claimed) ≡ true
   unfolding apart
   apart-tokens d n = rw (ne-eqb number other d, eq-eqb (conflict claim claimed) 0 n) refl
 

@@ -22,11 +22,23 @@ below (suc n) s (suc i) h e =
     let r : i < n = below n (s / 2) i (omega (arith, rw pow-suc at h)) (sym (bit-next i s) ∙ e) in omega arith
 
 module _ (held types : ℕ) where
-  in-without : (i : ℕ) → bit i (without held types) ≡ true → (bit i held ≡ true) × (bit i types ≡ false)
+  pub in-without : (i : ℕ) → bit i (without held types) ≡ true → (bit i held ≡ true) × (bit i types ≡ false)
   unfolding without
   in-without i e =
       let p = in-set kinds (λ j. bit j held && not (bit j types)) i e in
       (and-left (bit i held) (not (bit i types)) p, not-true (bit i types) (and-right (bit i held) (not (bit i types)) p))
+
+  pub without-in : (i : ℕ) → i < kinds → bit i held ≡ true → bit i types ≡ false → bit i (without held types) ≡ true
+  unfolding without
+  without-in i h p q = bit-set kinds (λ j. bit j held && not (bit j types)) i h ∙ rw (p, q) refl
+
+  -- nothing is lacking where each of the types is held
+  pub none-lacking : ((i : ℕ) → bit i types ≡ true → bit i held ≡ true) → lacks held types ≡ false
+  unfolding lacks
+  none-lacking f = fails (lacks held types) (λ e.
+      let r = some-found kinds (λ j. bit j types && not (bit j held)) e in
+      let has = and-left (bit (r .0) types) (not (bit (r .0) held)) (r .2) in
+      differ (sym (f (r .0) has) ∙ not-true (bit (r .0) held) (and-right (bit (r .0) types) (not (bit (r .0) held)) (r .2))))
 
   pub without-less : without held types ≤ held
   without-less =
@@ -91,7 +103,7 @@ module _ (held types : ℕ) where
           forth i p false q =
               bit-or i (without held types) types
               ∙ one-or (bit i (without held types)) (bit i types)
-              (inl (bit-set kinds (λ j. bit j held && not (bit j types)) i (below kinds held i small p) ∙ rw (p, q) refl))
+              (inl (without-in i (below kinds held i small p) p q))
 
       -- what is left is a difference
       pub difference : held < 2 ^ kinds → held - types ≡ without held types

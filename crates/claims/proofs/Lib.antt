@@ -1,6 +1,7 @@
 pub mod Sets
 pub mod Sentence
 pub mod Symmetry
+pub mod Within
 pub mod Masks
 pub mod Fewer
 pub mod Determined

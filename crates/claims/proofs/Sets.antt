@@ -74,6 +74,15 @@ empty = bin-ind (λ (n : ℕ). ((i : ℕ) → bit i n ≡ false) → n ≡ 0) (�
 pub nonempty : (s i : ℕ) → bit i s ≡ true → s ≢ 0
 nonempty s i e z = differ (sym e ∙ rw z (bit-zero i))
 
+pub member : (s : ℕ) → s ≢ 0 → (i : ℕ) × (bit i s ≡ true)
+member = bin-ind (λ (n : ℕ). n ≢ 0 → (i : ℕ) × (bit i n ≡ true)) (λ h. absurd (h refl)) (λ n later h. go n later h (bit 0 n) refl)
+  where
+    go : (n : ℕ) → (n / 2 ≢ 0 → (i : ℕ) × (bit i (n / 2) ≡ true)) → n ≢ 0 → (b : Bool) → bit 0 n ≡ b → (i : ℕ) × (bit i n ≡ true)
+    go n later h true e = (0, e)
+    go n later h false e =
+        let r = later (λ z. h (omega (arith, even n e))) in
+        (suc (r .0), bit-next (r .0) n ∙ r .1)
+
 odd-alike : (m n : ℕ) → bit 0 m ≡ bit 0 n → m % 2 ≡ n % 2
 odd-alike m n e = go (bit 0 m) refl
   where

@@ -16,13 +16,13 @@ use Rattle.words.proofs.Written.{number-again, number-fits}
 use Rattle.claims.specs.Claim.{unfit, malformed}
 use Rattle.claims.specs.declared.claim.Claim.{Claim}
 use Rattle.table.specs.Table.{Table, limit}
-use Rattle.table.specs.Layout.{width, kindOf, claimOf, slotOf, fieldBytes, slotBytes, cut, count, slotsIn, nextIn, headerBytes, tableOf, joined, bytesOf}
+use Rattle.table.specs.Layout.{width, Fits, kindOf, claimOf, slotOf, fieldBytes, slotBytes, cut, count, slotsIn, nextIn, headerBytes, tableOf, joined, bytesOf}
 use Rattle.table.specs.Form.{isLength, allZero, isHeader, isToken, isSlot, opening, wellFormed}
 use Rattle.table.specs.declared.slot.Slot.{Slot}
 use Rattle.table.specs.declared.slot.Slot.the-variants.{Free, Held}
 use Rattle.table.proofs.Chains.{field-length, slot-length}
 use Rattle.table.proofs.Cuts.{cut-length}
-use Rattle.table.proofs.Spelled.{Fits, Formed, blank, token, formed, slot-size, claim-again, field-again, kind-again, token-again, free-again, claim-fits, blank-kind}
+use Rattle.table.proofs.Spelled.{Formed, blank, token, formed, slot-size, claim-again, field-again, kind-again, token-again, free-again, claim-fits, blank-kind}
 use Rattle.table.proofs.Tables.{header-length, bytes-length, cut-bytes, drop-bytes, form-size, form-header, form-slots}
 
 -- a slot in order: free, or a token whose numbers are as wide as the bytes
@@ -39,7 +39,7 @@ pub record InOrder (t : Table) : Type 0 where
   pub slots : Each (Ordered (limit t) (t .next)) (t .slots)
 
 -- a token's number is below next
-below-next : (top next number : ℕ) (claim : Claim) → isToken top next number claim ≡ true → number < next
+pub below-next : (top next number : ℕ) (claim : Claim) → isToken top next number claim ≡ true → number < next
 unfolding isToken
 below-next top next number claim e = ltb-true number next (and-right (not (malformed claim top) && ltb 0 number) (ltb number next) e)
 

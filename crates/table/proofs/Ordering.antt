@@ -16,14 +16,13 @@ use Rattle.words.proofs.Left.{left-whole}
 use Rattle.claims.specs.Claim.{malformed}
 use Rattle.claims.specs.declared.claim.Claim.{Claim}
 use Rattle.table.specs.Table.{Table, limit, withSlots, put, issue}
-use Rattle.table.specs.Layout.{tableOf, bytesOf, count}
+use Rattle.table.specs.Layout.{Fits, tableOf, bytesOf, count}
 use Rattle.table.specs.Form.{isLength, isToken, wellFormed}
 use Rattle.table.specs.Fill.{filled, fillSays, Fills}
 use Rattle.table.specs.Call.{leftOf}
 use Rattle.table.specs.declared.reply.Reply.{Reply}
 use Rattle.table.specs.declared.slot.Slot.{Slot}
 use Rattle.table.specs.declared.slot.Slot.the-variants.{Free, Held}
-use Rattle.table.proofs.Spelled.{Fits}
 use Rattle.table.proofs.Means.{Ordered, InOrder, bytes-formed, ordered}
 use Rattle.table.proofs.Tables.{bytes-length, form-size}
 use Rattle.table.proofs.Cuts.{sized, table-length}

@@ -14,18 +14,9 @@ use Rattle.words.specs.Writing.{digits}
 use Rattle.words.proofs.Tests.{differ, and-left, and-right}
 use Rattle.words.proofs.Written.{digits-number, number-spelled, number-fits}
 use Rattle.claims.specs.declared.claim.Claim.{Claim}
-use Rattle.table.specs.Layout.{width, kindOf, claimOf, slotOf, fileBytes, fieldBytes, slotBytes}
+use Rattle.table.specs.Layout.{width, Fits, kindOf, claimOf, slotOf, fileBytes, fieldBytes, slotBytes}
 use Rattle.table.specs.Form.{allZero, isToken, isSlot}
 use Rattle.table.specs.declared.slot.Slot.the-variants.{Free, Held}
-
--- what the numbers of a claim always are: as wide as the bytes
-pub record Fits (claim : Claim) : Type 0 where
-  pub types : claim .types < 256 ^ 2
-  pub host : claim .host < 256 ^ 2
-  pub hi : claim .file .hi < 256 ^ 8
-  pub lo : claim .file .lo < 256 ^ 4
-  pub first : claim .first < 256 ^ 8
-  pub last : claim .last < 256 ^ 8
 
 fields : (kind number : ℕ) (claim : Claim) → claimOf (fieldBytes kind number claim) ≡ record {
   types = numberFrom 0 (digits 2 (claim .types));

@@ -1,7 +1,7 @@
 -- The table in bytes: what bytes mean, and the bytes of a table.
 use mathlib.Core.Path.{_≡_}
 use mathlib.Core.List.{List, [], _∷_, _++_, map}
-use Prim.Native.Nat.{ℕ, zero, suc, _-_, _/_}
+use Prim.Native.Nat.{ℕ, zero, suc, _-_, _/_, _^_, _<_}
 use lib.Dec.{eqb}
 use lib.ListN.{length, getD, take, drop, replicate}
 use Rattle.words.specs.Test.{if_then_else_}
@@ -29,6 +29,15 @@ claimOf slot = record {
   first = numberAt 8 17 slot;
   last = numberAt 8 25 slot;
 }
+
+-- what the numbers of a claim always are: as wide as their bytes
+pub record Fits (claim : Claim) : Type 0 where
+  pub types : claim .types < 256 ^ 2
+  pub host : claim .host < 256 ^ 2
+  pub hi : claim .file .hi < 256 ^ 8
+  pub lo : claim .file .lo < 256 ^ 4
+  pub first : claim .first < 256 ^ 8
+  pub last : claim .last < 256 ^ 8
 
 -- a token where the kind is 1
 unfoldable pub slotOf : List ℕ → Slot

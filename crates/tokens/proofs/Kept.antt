@@ -1,14 +1,14 @@
--- After any call the bytes are well formed, or as they were. Assumes nothing.
+-- A call leaves a table in order; so after any call the bytes are well formed, or as they were. Assumes nothing.
 use mathlib.Core.Path.{_≡_, refl}
 use mathlib.Core.Bool.{Bool, true, false, not, _||_, _&&_}
 use mathlib.Core.List.{List, [], _∷_}
-use mathlib.Core.Logic.{_⊎_}
+use mathlib.Core.Logic.{_⊎_, _≢_}
 use Prim.Native.Nat.{ℕ, _^_, _≤_, _<_}
 use native.Mathlib.Omega.{arith}
 use borrow.Author.Tests.{eqb-false, ne-eqb, le-ltb, ltb-false, not-true}
 use lib.Dec.{eqb, ltb}
-use lib.ListN.{length-set, length-map}
-use Rattle.words.specs.Test.{if_then_else_, anyOf}
+use lib.ListN.{length, length-set, length-map}
+use Rattle.words.specs.Test.{if_then_else_, anyOf, placeOf}
 use Rattle.words.specs.Said.{done, refused, andThen}
 use Rattle.words.specs.Number.{Bytes}
 use Rattle.words.proofs.Tests.{and-left, and-right, and-both, or-left, or-right}
@@ -18,48 +18,46 @@ use Rattle.claims.specs.Claim.{withTypes, unfit, malformed}
 use Rattle.claims.specs.declared.claim.Claim.{Claim}
 use Rattle.claims.proofs.Fewer.{without-less}
 use Rattle.table.specs.Table.{Table, limit}
+use Rattle.table.specs.Layout.{Fits}
 use Rattle.table.specs.Form.{isToken, wellFormed}
 use Rattle.table.specs.declared.reply.Reply.{Reply}
 use Rattle.table.specs.declared.slot.Slot.{Slot}
 use Rattle.table.specs.declared.slot.Slot.the-variants.{Free, Held}
-use Rattle.table.proofs.Spelled.{Fits}
 use Rattle.table.proofs.Means.{Ordered, InOrder, order-at}
 use Rattle.table.proofs.Ordering.{put-order, map-order, issue-order, left-formed}
 use Rattle.tokens.specs.Grant.{isFree, isInTheWay, lastNumber, roomSays, requestSays, serveSays, grantSays, granted, Grants}
 use Rattle.tokens.specs.Return.{keeps, loses, placeIn, tokenIn, returnSays, returned, Returns}
 use Rattle.tokens.specs.DropHost.{isHosts, freed, dropSays, dropped, Drops}
 
--- what a grant that is done tells of the request and the numbers
+-- what a grant that is done tells of the request, the table and the numbers
+pub record Passed (claim : Claim) (t : Table) : Type 0 where
+  pub shaped : malformed claim (limit t) ≡ false
+  pub harmless : anyOf (isInTheWay claim) (t .slots) ≡ false
+  pub room : anyOf isFree (t .slots) ≡ true
+  pub numbers-left : t .next ≢ lastNumber
+
 module _ (claim : Claim) (t : Table) (values : List ℕ) (e : grantSays claim t ≡ done values) where
-  shaped : malformed claim (limit t) ≡ false
-  unfolding grantSays requestSays andThen
-  shaped = go (malformed claim (limit t)) e
+  pub passed : Passed claim t
+  unfolding grantSays requestSays serveSays roomSays andThen
+  passed = go (malformed claim (limit t)) (anyOf (isInTheWay claim) (t .slots)) (anyOf isFree (t .slots)) (eqb (t .next) lastNumber) refl refl refl refl e
     where
-      go : (b : Bool) → andThen (if b then refused 31 [] else done []) (serveSays claim t) ≡ done values → b ≡ false
-      go true q = absurd (not-done 31 [] values q)
-      go false q = refl
-
-  numbers-left : t .next ≡ 18446744073709551615 → ⊥
-  unfolding grantSays requestSays serveSays roomSays lastNumber andThen
-  numbers-left = go (malformed claim (limit t)) (anyOf (isInTheWay claim) (t .slots)) (anyOf isFree (t .slots)) (eqb (t .next) 18446744073709551615) refl e
-    where
-      go : (a b c d : Bool) → eqb (t .next) 18446744073709551615 ≡ d
+      go : (a b c d : Bool) → malformed claim (limit t) ≡ a → anyOf (isInTheWay claim) (t .slots) ≡ b → anyOf isFree (t .slots) ≡ c → eqb (t .next) lastNumber ≡ d
           → andThen (if a then refused 31 [] else done []) (if b then refused 32 [] else if not c then refused 33 [] else if d then refused 34 [] else done (t .next ∷ [])) ≡ done values
-          → t .next ≡ 18446744073709551615 → ⊥
-      go true b c d p q = absurd (not-done 31 [] values q)
-      go false true c d p q = absurd (not-done 32 [] values q)
-      go false false false d p q = absurd (not-done 33 [] values q)
-      go false false true true p q = absurd (not-done 34 [] values q)
-      go false false true false p q = eqb-false (t .next) 18446744073709551615 p
+          → Passed claim t
+      go true b c d p q r s z = absurd (not-done 31 [] values z)
+      go false true c d p q r s z = absurd (not-done 32 [] values z)
+      go false false false d p q r s z = absurd (not-done 33 [] values z)
+      go false false true true p q r s z = absurd (not-done 34 [] values z)
+      go false false true false p q r s z = record { shaped = p; harmless = q; room = r; numbers-left = eqb-false (t .next) lastNumber s }
 
--- a claim whose numbers are what their types hold
+  pub grant-order : InOrder t → Fits claim → InOrder (granted claim t) × (length (granted claim t .slots) ≡ length (t .slots))
+  unfolding granted lastNumber
+  grant-order o fits = (issue-order t o (placeOf isFree (t .slots)) claim (passed .shaped) fits (passed .numbers-left), length-set (t .slots) _ _)
+
 pub grant-formed : {bytes : List ℕ} {claim : Claim} {r : Reply} {after : List ℕ} → Bytes bytes → Fits claim → Grants bytes claim r after
     → (wellFormed after ≡ true) ⊎ (after ≡ bytes)
-unfolding granted
 grant-formed {bytes} {claim} all fits g =
-    left-formed (grantSays claim) (granted claim) bytes all
-    (λ t o values e. (issue-order t o _ claim (shaped claim t values e) fits (numbers-left claim t values e), length-set (t .slots) _ _))
-    (g .table-after)
+    left-formed (grantSays claim) (granted claim) bytes all (λ t o values e. grant-order claim t values e o fits) (g .table-after)
 
 free-ordered : (top next : ℕ) → Ordered top next Free
 unfolding Ordered
@@ -114,20 +112,22 @@ freed-ordered top next host slot o = go (isHosts host slot)
     go true = free-ordered top next
     go false = o
 
+module _ (t : Table) (o : InOrder t) where
+  pub return-order : (host number types : ℕ) → InOrder (returned host number types t) × (length (returned host number types t .slots) ≡ length (t .slots))
+  unfolding returned
+  return-order host number types = (
+    put-order t o (placeIn host number types t) (loses types (tokenIn host number types t)) (loses-ordered (limit t) (t .next) types (tokenIn host number types t) (there host number types t o)),
+    length-set (t .slots) _ _,
+  )
+
+  pub drop-order : (host : ℕ) → InOrder (dropped host t) × (length (dropped host t .slots) ≡ length (t .slots))
+  unfolding dropped
+  drop-order host = (map-order t o (freed host) (freed-ordered (limit t) (t .next) host), length-map (t .slots) (freed host))
+
 pub return-formed : {bytes : List ℕ} {host number types : ℕ} {r : Reply} {after : List ℕ} → Bytes bytes → Returns bytes host number types r after
     → (wellFormed after ≡ true) ⊎ (after ≡ bytes)
-unfolding returned
 return-formed {bytes} {host} {number} {types} all g =
-    left-formed (returnSays host number types) (returned host number types) bytes all
-    (λ t o values e. (put-order t o (placeIn host number types t) (loses types (tokenIn host number types t)) (lost-ordered t o), length-set (t .slots) _ _))
-    (g .table-after)
-  where
-    lost-ordered : (t : Table) → InOrder t → Ordered (limit t) (t .next) (loses types (tokenIn host number types t))
-    lost-ordered t o = loses-ordered (limit t) (t .next) types (tokenIn host number types t) (there host number types t o)
+    left-formed (returnSays host number types) (returned host number types) bytes all (λ t o values e. return-order t o host number types) (g .table-after)
 
 pub drop-formed : {bytes : List ℕ} {host : ℕ} {r : Reply} {after : List ℕ} → Bytes bytes → Drops bytes host r after → (wellFormed after ≡ true) ⊎ (after ≡ bytes)
-unfolding dropped
-drop-formed {bytes} {host} all g =
-    left-formed (dropSays host) (dropped host) bytes all
-    (λ t o values e. (map-order t o (freed host) (freed-ordered (limit t) (t .next) host), length-map (t .slots) (freed host)))
-    (g .table-after)
+drop-formed {bytes} {host} all g = left-formed (dropSays host) (dropped host) bytes all (λ t o values e. drop-order t o host) (g .table-after)

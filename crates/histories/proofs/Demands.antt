@@ -1,0 +1,182 @@
+-- Demands 2 and 3 hold of every table that calls reach. Assumes nothing.
+use mathlib.Core.Path.{_≡_, refl, sym, _∙_, ap, subst}
+use mathlib.Core.Bool.{Bool, true, false}
+use mathlib.Core.List.{List, [], _∷_, _++_, map, List·Memᴰ}
+use mathlib.Core.Logic.{_≢_, _↔_}
+use Prim.Native.Nat.{ℕ, _<_}
+use native.Mathlib.Omega.{arith}
+use native.Mathlib.Decide.{ℕ-discrete}
+use lib.Dec.{ltb}
+use lib.ListN.{length, getD, drop}
+use Rattle.words.specs.Test.{if_then_else_}
+use Rattle.words.specs.Said.{Said, done, refused, andThen, left}
+use Rattle.words.proofs.Left.{not-done}
+use Rattle.claims.specs.Claim.{malformed}
+use Rattle.claims.specs.Rule.{Conflicting}
+use Rattle.claims.specs.declared.claim.Claim.{Claim}
+use Rattle.claims.proofs.Sets.{nonempty}
+use Rattle.claims.proofs.Sentence.{in-conflict}
+use Rattle.table.specs.Table.{Table, limit}
+use Rattle.table.specs.Layout.{tableOf, bytesOf}
+use Rattle.table.specs.Form.{wellFormed}
+use Rattle.table.specs.Reply.{replySays}
+use Rattle.table.specs.declared.reply.Reply.{Reply}
+use Rattle.table.specs.declared.reply.Reply.the-variants.{Done, Value}
+use Rattle.table.specs.declared.slot.Slot.the-variants.{Free, Held}
+use Rattle.table.proofs.Means.{Ordered, table-bytes, bytes-formed, order-at, below-next}
+use Rattle.tokens.specs.Grant.{requestSays, serveSays, roomSays}
+use Rattle.tokens.specs.Ask.{inTheWay, listFor, listSays}
+use Rattle.tokens.specs.Return.{returnSays, returned}
+use Rattle.tokens.proofs.Kept.{return-order}
+use Rattle.audit.specs.Audit.{allApart, sound, Audits}
+use Rattle.audit.proofs.Exactly.{tokens-apart, apart-pairs}
+use Rattle.desk.specs.Access.{Access, accessSays}
+use Rattle.desk.specs.Order.{inOrder}
+use Rattle.desk.specs.Grant.{grantSays, Grants}
+use Rattle.desk.specs.Ask.{askSays, Asks}
+use Rattle.histories.specs.History.{Return, Reached}
+use Rattle.histories.specs.Callback.{slotAt, Item, Holds, Entry, entriesIn, Listed, Turn, Returned, GivenBack, returnOf, Reordered}
+use Rattle.histories.specs.Demands.{Demand2, Again, Served, StillHeld, Demand3}
+use Rattle.histories.proofs.Soundness.{Sound}
+use Rattle.histories.proofs.Spelling.{says-there, left-there}
+use Rattle.histories.proofs.Giving.{says, give, give-sound}
+use Rattle.histories.proofs.Turns.{giveAll, Answered, all-sound, all-limit, same-claim}
+use Rattle.histories.proofs.Entries.{entries, read-list}
+use Rattle.histories.proofs.Serving.{exactly, otherwise, once-returned, least}
+use Rattle.histories.proofs.Planning.{none-refused, all-given}
+use Rattle.histories.proofs.Reaching.{Stands, reached-stands}
+
+-- of the bytes of a sound table
+module _ (t : Table) (s : Sound t) where
+  two-apart : (i j number other : ℕ) (a b : Claim) → slotAt t i ≡ Held number a → slotAt t j ≡ Held other b → (x y : ℕ) → Conflicting a b x y → ⊥
+  two-apart i j number other a b p q x y c = go (ℕ-discrete i j)
+    where
+      go : Dec (i ≡ j) → ⊥
+      go (yes e) = let w : slotAt t j ≡ Held number a = rw e at p in c .hosts-differ (ap (λ (z : Claim). z .host) (same-claim (sym w ∙ q)))
+      go (no d) = nonempty _ x (in-conflict a b x y c) (tokens-apart number other a b (rw (p, q) at (s .all .at i j d)) .1)
+
+  below : (i number : ℕ) (a : Claim) → slotAt t i ≡ Held number a → number < t .next
+  unfolding Ordered
+  below i number a p =
+      let o : Ordered (limit t) (t .next) (Held number a) = rw p at (order-at t (s .order) i) in below-next (limit t) (t .next) number a (o .0)
+
+  yes-says : sound (bytesOf t) ≡ true
+  unfolding sound
+  yes-says =
+      rw (bytes-formed t (s .order), table-bytes t (s .order))
+      (apart-pairs (t .slots) (λ i j h. s .all .at i j (λ e. omega arith)))
+
+  pub of-table : Demand2 (bytesOf t)
+  of-table = record {
+    well-formed = bytes-formed t (s .order);
+    nothing-conflicts = rw (table-bytes t (s .order)) two-apart;
+    numbers-differ = rw (table-bytes t (s .order)) (λ i j number other a b p q d. tokens-apart number other a b (rw (p, q) at (s .all .at i j d)) .0);
+    below-next = rw (table-bytes t (s .order)) below;
+    audit-yes = λ r a. a .answer ∙ yes-says;
+  }
+
+pub demand2 : (bytes : List ℕ) → Reached bytes → Demand2 bytes
+demand2 bytes r = let s = reached-stands bytes r in rw (s .spelled) (of-table (s .table) (s .sound))
+
+-- the bytes after returns, and the answers, are those of the table
+run-returns : (turns : List Turn) (t : Table) → Sound t → (now : List ℕ) → Returned turns (bytesOf t) now → (now ≡ bytesOf (giveAll turns t)) × Answered turns t
+unfolding Returned giveAll Answered give
+run-returns [] t s now r = (r, tt)
+run-returns (turn ∷ turns) t s now r =
+    let g = turn .given in
+    let o = s .order in
+    let by = left-there (returnSays (g .host) (g .number) (g .types)) t o (returned (g .host) (g .number) (g .types)) (λ values e. return-order t o (g .host) (g .number) (g .types) .1) in
+    let between : r .0 ≡ bytesOf (give g t) = r .1 .table-after ∙ by in
+    let later = run-returns turns (give g t) (give-sound g t s) now (rw between at (r .2)) in
+    (later .0, (r .1 .answer ∙ says-there (returnSays (g .host) (g .number) (g .types)) t o, later .1))
+
+-- what an ask that is done tells: the request is well formed, and how many tokens are in its way
+module _ (claim : Claim) (out : List ℕ) (t : Table) (verdict : Said) (n : ℕ) where
+  first-value : Said → ℕ
+  first-value (done values) = getD values 0 0
+  first-value (refused number values) = 0
+
+  asked : done (n ∷ []) ≡ inOrder claim verdict (listSays claim out) t → (malformed claim (limit t) ≡ false) × (n ≡ length (inTheWay claim t))
+  unfolding inOrder andThen requestSays listSays first-value
+  asked e = go (malformed claim (limit t)) refl verdict (ltb (length out) (length (listFor claim t))) e
+    where
+      go : (b : Bool) → malformed claim (limit t) ≡ b → (v : Said) (c : Bool)
+          → done (n ∷ []) ≡ andThen (if b then refused 31 [] else done []) (andThen v (if c then refused 35 (length (inTheWay claim t) ∷ []) else done (length (inTheWay claim t) ∷ [])))
+          → (malformed claim (limit t) ≡ false) × (n ≡ length (inTheWay claim t))
+      go true p v c z = absurd (not-done 31 [] (n ∷ []) (sym z))
+      go false p (refused number w) c z = absurd (not-done number w (n ∷ []) (sym z))
+      go false p (done w) true z = absurd (not-done 35 (length (inTheWay claim t) ∷ []) (n ∷ []) (sym z))
+      go false p (done w) false z = (p, ap first-value z)
+
+-- a permitted, well-formed request is answered by room and conflicts alone
+served-as : (claim : Claim) (access : Access) (t : Table) → malformed claim (limit t) ≡ false → accessSays access (claim .types) ≡ done []
+    → grantSays claim access t ≡ serveSays claim t
+unfolding grantSays inOrder requestSays andThen
+served-as claim access t shaped permitted = rw (shaped, permitted) refl
+
+module _ (t : Table) (s : Sound t) (claim : Claim) (shaped : malformed claim (limit t) ≡ false) where
+  -- what the request made again comes to, on the table
+  record Comes (turns : List Turn) (now : List ℕ) (said : Said) : Type 0 where
+    pub answers : Answered turns t
+    pub table : tableOf now ≡ giveAll turns t
+    pub says : said ≡ serveSays claim (giveAll turns t)
+
+  comes : (turns : List Turn) (now : List ℕ) (said : Said) → Again (bytesOf t) claim turns now said → Comes turns now said
+  comes turns now said a =
+      let u = giveAll turns t in
+      let o = all-sound turns t s .order in
+      let r = run-returns turns t s now (a .returned) in
+      let fine : malformed claim (limit u) ≡ false = rw (all-limit turns t) shaped in
+      let spoken : replySays (a .reply) ≡ grantSays claim (a .access) u = rw (r .0) at (a .grant .answer) ∙ says-there (grantSays claim (a .access)) u o in
+      record {
+        answers = r .1;
+        table = ap tableOf (r .0) ∙ table-bytes u o;
+        says = a .says ∙ spoken ∙ served-as claim (a .access) u fine (a .permitted);
+      }
+
+  module _ (turns : List Turn) (now : List ℕ) (said : Said) (a : Again (bytesOf t) claim turns now said) where
+    c : Comes turns now said
+    c = comes turns now said a
+
+    still-held : (said ≡ refused 32 []) ↔ StillHeld (entries claim (t .slots)) now
+    still-held = (
+      λ e. let w = exactly claim t s turns .0 (sym (c .says) ∙ e) in record { item = w .0; listed = w .1; held = rw (c .table) (w .2) },
+      λ h. c .says ∙ exactly claim t s turns .1 (h .item, h .listed, rw (c .table) at (h .held)),
+    )
+
+    served : serveSays claim (giveAll turns t) ≡ roomSays (giveAll turns t) → Served now said
+    served e = c .says ∙ e ∙ ap roomSays (sym (c .table))
+
+    room-says : Served now said → serveSays claim (giveAll turns t) ≡ roomSays (giveAll turns t)
+    room-says e = sym (c .says) ∙ e ∙ ap roomSays (c .table)
+
+  pub of-request : Demand3 (bytesOf t) claim (entries claim (t .slots))
+  of-request = record {
+    exactly = still-held;
+    otherwise = λ turns now said a n. served turns now said a (otherwise claim (giveAll turns t) (λ e. n (c turns now said a .says ∙ e)));
+    once-returned = λ turns now said a all. served turns now said a (once-returned claim t s turns (c turns now said a .answers) all);
+    while-held = λ turns now said a x l h. still-held turns now said a .1 (record { item = x; listed = l; held = h });
+    least = λ turns now said a e. least claim t s turns (c turns now said a .answers) (room-says turns now said a e);
+    in-any-order = λ es order turns now said are a.
+        let answers = c turns now said a .answers in (
+          none-refused claim t s es order turns are answers,
+          served turns now said a (once-returned claim t s turns answers (all-given claim t s es order turns are answers)),
+        );
+  }
+
+-- the list is read off the bytes that an ask which was done wrote
+of-ask : (t : Table) → Sound t → (bytes : List ℕ) → bytes ≡ bytesOf t → (claim : Claim) (access : Access) (out : List ℕ) (count : ℕ) (list : List ℕ)
+    → Asks bytes claim access out (Value count) list → Demand3 bytes claim (entriesIn count list)
+unfolding askSays replySays left
+of-ask t s bytes spelled claim access out count list a =
+    let o = s .order in
+    let says : done (count ∷ []) ≡ askSays claim access out t = rw spelled at (a .answer) ∙ says-there (askSays claim access out) t o in
+    let told = asked claim out t (accessSays access (claim .types)) count says in
+    let rest = drop (length (listFor claim t)) out in
+    let written : list ≡ listFor claim t ++ rest = rw (spelled, says-there (askSays claim access out) t o, ← says, table-bytes t o) at (a .out-after) in
+    let read : entriesIn count list ≡ entries claim (t .slots) = rw (written, told .1) (read-list claim rest t o) in
+    rw (read, spelled) (of-request t s claim (told .0))
+
+pub demand3 : (bytes : List ℕ) → Reached bytes → (claim : Claim) (access : Access) (out : List ℕ) (count : ℕ) (list : List ℕ)
+    → Asks bytes claim access out (Value count) list → Demand3 bytes claim (entriesIn count list)
+demand3 bytes r = let p = reached-stands bytes r in of-ask (p .table) (p .sound) bytes (p .spelled)

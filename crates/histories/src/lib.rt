@@ -1,0 +1,1 @@
+// What is promised of a table over every history of calls.
