@@ -1,3 +1,5 @@
 pub mod Masks
 pub mod Judged
 pub mod Determined
+pub mod Opened
+pub mod Day

@@ -3,3 +3,4 @@ pub mod Access
 pub mod Order
 pub mod Grant
 pub mod Ask
+pub mod Day

@@ -1,0 +1,13 @@
+-- All definitions of this crate and of those below it, opened by one name. Assumes nothing.
+use Rattle.rights.proofs.Opened.{all as rights}
+use Rattle.tokens.proofs.Opened.{all as tokens}
+use Rattle.desk.specs.Needs.{needs, need, needed}
+use Rattle.desk.specs.Access.{sufficient, permits, accessSays}
+use Rattle.desk.specs.Order.{inOrder}
+use Rattle.desk.specs.Grant.{grantSays}
+use Rattle.desk.specs.Ask.{askSays}
+
+-- one name that opens every definition, for what is computed
+unfoldable pub all : Unit {0}
+unfolding rights tokens needs need needed sufficient permits accessSays inOrder grantSays askSays
+all = tt
