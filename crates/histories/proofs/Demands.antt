@@ -3,13 +3,15 @@ use mathlib.Core.Path.{_≡_, refl, sym, _∙_, ap, subst}
 use mathlib.Core.Bool.{Bool, true, false}
 use mathlib.Core.List.{List, [], _∷_, _++_, map, List·Memᴰ}
 use mathlib.Core.Logic.{_≢_, _↔_}
-use Prim.Native.Nat.{ℕ, _<_}
+use Prim.Native.Nat.{ℕ, _*_, _≤_, _<_}
 use native.Mathlib.Omega.{arith}
 use native.Mathlib.Decide.{ℕ-discrete}
+use borrow.Author.Tests.{le-ltb}
 use lib.Dec.{ltb}
 use lib.ListN.{length, getD, drop}
 use Rattle.words.specs.Test.{if_then_else_}
 use Rattle.words.specs.Said.{Said, done, refused, andThen, left}
+use Rattle.words.proofs.Tests.{those-few}
 use Rattle.words.proofs.Left.{not-done}
 use Rattle.claims.specs.Claim.{malformed}
 use Rattle.claims.specs.Rule.{Conflicting}
@@ -23,10 +25,12 @@ use Rattle.table.specs.Reply.{replySays}
 use Rattle.table.specs.declared.reply.Reply.{Reply}
 use Rattle.table.specs.declared.reply.Reply.the-variants.{Done, Value}
 use Rattle.table.specs.declared.slot.Slot.the-variants.{Free, Held}
+use Rattle.table.proofs.Determined.{same-reply}
 use Rattle.table.proofs.Means.{Ordered, table-bytes, bytes-formed, order-at, below-next}
-use Rattle.tokens.specs.Grant.{requestSays, serveSays, roomSays}
+use Rattle.tokens.specs.Grant.{isInTheWay, requestSays, serveSays, roomSays}
 use Rattle.tokens.specs.Ask.{inTheWay, listFor, listSays}
 use Rattle.tokens.specs.Return.{returnSays, returned}
+use Rattle.tokens.proofs.Listed.{list-length}
 use Rattle.tokens.proofs.Kept.{return-order}
 use Rattle.audit.specs.Audit.{allApart, sound, Audits}
 use Rattle.audit.proofs.Exactly.{tokens-apart, apart-pairs}
@@ -36,7 +40,7 @@ use Rattle.desk.specs.Grant.{grantSays, Grants}
 use Rattle.desk.specs.Ask.{askSays, Asks}
 use Rattle.histories.specs.History.{Return, Reached}
 use Rattle.histories.specs.Callback.{slotAt, Item, Holds, Entry, entriesIn, Listed, Turn, Returned, GivenBack, returnOf, Reordered}
-use Rattle.histories.specs.Demands.{Demand2, Again, Served, StillHeld, Demand3}
+use Rattle.histories.specs.Demands.{NoTwoConflict, Again, Served, StillHeld, LeastThatServes, Demand2, Demand3, AskIsDone}
 use Rattle.histories.proofs.Soundness.{Sound}
 use Rattle.histories.proofs.Spelling.{says-there, left-there}
 use Rattle.histories.proofs.Giving.{says, give, give-sound}
@@ -66,7 +70,7 @@ module _ (t : Table) (s : Sound t) where
       rw (bytes-formed t (s .order), table-bytes t (s .order))
       (apart-pairs (t .slots) (λ i j h. s .all .at i j (λ e. omega arith)))
 
-  pub of-table : Demand2 (bytesOf t)
+  of-table : NoTwoConflict (bytesOf t)
   of-table = record {
     well-formed = bytes-formed t (s .order);
     nothing-conflicts = rw (table-bytes t (s .order)) two-apart;
@@ -75,7 +79,7 @@ module _ (t : Table) (s : Sound t) where
     audit-yes = λ r a. a .answer ∙ yes-says;
   }
 
-pub demand2 : (bytes : List ℕ) → Reached bytes → Demand2 bytes
+pub demand2 : Demand2
 demand2 bytes r = let s = reached-stands bytes r in rw (s .spelled) (of-table (s .table) (s .sound))
 
 -- the bytes after returns, and the answers, are those of the table
@@ -147,36 +151,52 @@ module _ (t : Table) (s : Sound t) (claim : Claim) (shaped : malformed claim (li
     served : serveSays claim (giveAll turns t) ≡ roomSays (giveAll turns t) → Served now said
     served e = c .says ∙ e ∙ ap roomSays (sym (c .table))
 
-    room-says : Served now said → serveSays claim (giveAll turns t) ≡ roomSays (giveAll turns t)
-    room-says e = sym (c .says) ∙ e ∙ ap roomSays (c .table)
+    all-returned : ((x : Item) → Listed (entries claim (t .slots)) x → GivenBack turns x) → Served now said
+    all-returned all = served (once-returned claim t s turns (c .answers) all)
 
-  pub of-request : Demand3 (bytesOf t) claim (entries claim (t .slots))
-  of-request = record {
-    exactly = still-held;
-    otherwise = λ turns now said a n. served turns now said a (otherwise claim (giveAll turns t) (λ e. n (c turns now said a .says ∙ e)));
-    once-returned = λ turns now said a all. served turns now said a (once-returned claim t s turns (c turns now said a .answers) all);
-    while-held = λ turns now said a x l h. still-held turns now said a .1 (record { item = x; listed = l; held = h });
-    least = λ turns now said a e. least claim t s turns (c turns now said a .answers) (room-says turns now said a e);
-    in-any-order = λ es order turns now said are a.
-        let answers = c turns now said a .answers in (
-          none-refused claim t s es order turns are answers,
-          served turns now said a (once-returned claim t s turns answers (all-given claim t s es order turns are answers)),
-        );
-  }
+    of-request : LeastThatServes (entries claim (t .slots)) turns now said
+    of-request = record {
+      exactly = still-held;
+      otherwise = λ n. served (otherwise claim (giveAll turns t) (λ e. n (c .says ∙ e)));
+      once-returned = all-returned;
+      while-held = λ x l h. still-held .1 (record { item = x; listed = l; held = h });
+      least = λ e. least claim t s turns (c .answers) (sym (c .says) ∙ e ∙ ap roomSays (c .table));
+      in-any-order = λ es order are. (none-refused claim t s es order turns are (c .answers), all-returned (all-given claim t s es order turns are (c .answers)));
+    }
+
+few-in-the-way : (claim : Claim) (t : Table) → length (inTheWay claim t) ≤ length (t .slots)
+unfolding inTheWay
+few-in-the-way claim t = those-few (isInTheWay claim) (t .slots)
 
 -- the list is read off the bytes that an ask which was done wrote
-of-ask : (t : Table) → Sound t → (bytes : List ℕ) → bytes ≡ bytesOf t → (claim : Claim) (access : Access) (out : List ℕ) (count : ℕ) (list : List ℕ)
-    → Asks bytes claim access out (Value count) list → Demand3 bytes claim (entriesIn count list)
-unfolding askSays replySays left
-of-ask t s bytes spelled claim access out count list a =
-    let o = s .order in
-    let says : done (count ∷ []) ≡ askSays claim access out t = rw spelled at (a .answer) ∙ says-there (askSays claim access out) t o in
-    let told = asked claim out t (accessSays access (claim .types)) count says in
-    let rest = drop (length (listFor claim t)) out in
-    let written : list ≡ listFor claim t ++ rest = rw (spelled, says-there (askSays claim access out) t o, ← says, table-bytes t o) at (a .out-after) in
-    let read : entriesIn count list ≡ entries claim (t .slots) = rw (written, told .1) (read-list claim rest t o) in
-    rw (read, spelled) (of-request t s claim (told .0))
+module _ (t : Table) (s : Sound t) (bytes : List ℕ) (spelled : bytes ≡ bytesOf t) (claim : Claim) (access : Access) (out : List ℕ) where
+  of-ask : (count : ℕ) (after : List ℕ) → Asks bytes claim access out (Value count) after
+      → (turns : List Turn) (now : List ℕ) (said : Said) → Again bytes claim turns now said → LeastThatServes (entriesIn count after) turns now said
+  unfolding askSays replySays left
+  of-ask count after a turns now said again =
+      let o = s .order in
+      let says : done (count ∷ []) ≡ askSays claim access out t = rw spelled at (a .answer) ∙ says-there (askSays claim access out) t o in
+      let told = asked claim out t (accessSays access (claim .types)) count says in
+      let rest = drop (length (listFor claim t)) out in
+      let written : after ≡ listFor claim t ++ rest = rw (spelled, says-there (askSays claim access out) t o, ← says, table-bytes t o) at (a .out-after) in
+      let read : entriesIn count after ≡ entries claim (t .slots) = rw (written, told .1) (read-list claim rest t o) in
+      rw read (of-request t s claim (told .0) turns now said (rw spelled at again))
 
-pub demand3 : (bytes : List ℕ) → Reached bytes → (claim : Claim) (access : Access) (out : List ℕ) (count : ℕ) (list : List ℕ)
-    → Asks bytes claim access out (Value count) list → Demand3 bytes claim (entriesIn count list)
-demand3 bytes r = let p = reached-stands bytes r in of-ask (p .table) (p .sound) bytes (p .spelled)
+  -- thirteen bytes for each slot are enough
+  enough : malformed claim (limit t) ≡ false → accessSays access (claim .types) ≡ done [] → 13 * 1024 ≤ length out
+      → (r : Reply) (after : List ℕ) → Asks bytes claim access out r after → (count : ℕ) × (r ≡ Value count)
+  unfolding askSays inOrder requestSays andThen listSays replySays
+  enough shaped permitted room r after a =
+      let o = s .order in
+      let few : length (listFor claim t) ≤ length out = omega (arith, list-length claim t, few-in-the-way claim t, o .few) in
+      let says : askSays claim access out t ≡ done (length (inTheWay claim t) ∷ []) = rw (shaped, permitted, le-ltb (length out) (length (listFor claim t)) few) refl in
+      (length (inTheWay claim t), same-reply r (Value (length (inTheWay claim t))) (rw spelled at (a .answer) ∙ says-there (askSays claim access out) t o ∙ says) refl)
+
+pub demand3 : Demand3
+demand3 bytes r claim access out = let p = reached-stands bytes r in of-ask (p .table) (p .sound) bytes (p .spelled) claim access out
+
+pub ask-is-done : AskIsDone
+ask-is-done bytes r claim shaped access permitted out room =
+    let p = reached-stands bytes r in
+    let same : tableOf bytes ≡ p .table = ap tableOf (p .spelled) ∙ table-bytes (p .table) (p .sound .order) in
+    enough (p .table) (p .sound) bytes (p .spelled) claim access out (rw same at shaped) permitted room

@@ -1,26 +1,31 @@
--- The customer's demands 2 and 3, of a table that calls have reached.
+-- The customer's demands 2 and 3, of every table that calls reach.
 use mathlib.Core.Path.{_≡_}
-use mathlib.Core.Bool.{Bool, true}
+use mathlib.Core.Bool.{Bool, true, false}
 use mathlib.Core.List.{List, [], map, List·Memᴰ}
 use mathlib.Core.Logic.{_≢_, _↔_}
-use Prim.Native.Nat.{ℕ, _<_}
+use Prim.Native.Nat.{ℕ, _*_, _≤_, _<_}
+use lib.ListN.{length}
 use Rattle.words.specs.Said.{Said, done, refused}
+use Rattle.claims.specs.Claim.{malformed}
 use Rattle.claims.specs.Rule.{Conflicting}
 use Rattle.claims.specs.declared.claim.Claim.{Claim}
+use Rattle.table.specs.Table.{limit}
 use Rattle.table.specs.Layout.{tableOf}
 use Rattle.table.specs.Form.{wellFormed}
 use Rattle.table.specs.Reply.{replySays}
 use Rattle.table.specs.declared.reply.Reply.{Reply}
-use Rattle.table.specs.declared.reply.Reply.the-variants.{Done}
+use Rattle.table.specs.declared.reply.Reply.the-variants.{Done, Value}
 use Rattle.table.specs.declared.slot.Slot.the-variants.{Held}
 use Rattle.tokens.specs.Grant.{roomSays}
 use Rattle.audit.specs.Audit.{Audits}
 use Rattle.desk.specs.Access.{Access, accessSays}
 use Rattle.desk.specs.Grant.{Grants}
-use Rattle.histories.specs.Callback.{slotAt, Item, Holds, Entry, Listed, Turn, Returned, GivenBack, returnOf, Reordered}
+use Rattle.desk.specs.Ask.{Asks}
+use Rattle.histories.specs.History.{Reached}
+use Rattle.histories.specs.Callback.{slotAt, Item, Holds, Entry, entriesIn, Listed, Turn, Returned, GivenBack, returnOf, Reordered}
 
 -- "from a freshly filled table, after any calls, no two hosts hold conflicting tokens"
-pub record Demand2 (bytes : List ℕ) : Type 0 where
+pub record NoTwoConflict (bytes : List ℕ) : Type 0 where
   pub well-formed : wellFormed bytes ≡ true
   pub nothing-conflicts : (i j number other : ℕ) (a b : Claim) → slotAt (tableOf bytes) i ≡ Held number a → slotAt (tableOf bytes) j ≡ Held other b → (x y : ℕ) → Conflicting a b x y → ⊥
   pub numbers-differ : (i j number other : ℕ) (a b : Claim) → slotAt (tableOf bytes) i ≡ Held number a → slotAt (tableOf bytes) j ≡ Held other b → i ≢ j → number ≢ other
@@ -47,21 +52,34 @@ pub record StillHeld (list : List Entry) (now : List ℕ) : Type 0 where
   pub listed : Listed list item
   pub held : Holds (tableOf now) item
 
--- "the list of types to call back is the least that serves"
-pub record Demand3 (bytes : List ℕ) (claim : Claim) (list : List Entry) : Type 0 where
-  -- after any returns, refused or not: refused for conflict exactly when a listed type is still held, and otherwise served
-  pub exactly : (turns : List Turn) (now : List ℕ) (said : Said) → Again bytes claim turns now said → (said ≡ refused 32 []) ↔ StillHeld list now
-  pub otherwise : (turns : List Turn) (now : List ℕ) (said : Said) → Again bytes claim turns now said → said ≢ refused 32 [] → Served now said
+-- "the list of types to call back is the least that serves": of the request made again after any returns, refused or not
+pub record LeastThatServes (list : List Entry) (turns : List Turn) (now : List ℕ) (said : Said) : Type 0 where
+  -- refused for conflict exactly when a listed type is still held, and otherwise served
+  pub exactly : (said ≡ refused 32 []) ↔ StillHeld list now
+  pub otherwise : said ≢ refused 32 [] → Served now said
   -- "once each is returned, in any order, with no other call between, the request is granted or refused only for room or spent numbers"
-  pub once-returned : (turns : List Turn) (now : List ℕ) (said : Said) → Again bytes claim turns now said
-      → ((x : Item) → Listed list x → GivenBack turns x) → Served now said
+  pub once-returned : ((x : Item) → Listed list x → GivenBack turns x) → Served now said
   -- "while one is still held, it is refused for conflict"
-  pub while-held : (turns : List Turn) (now : List ℕ) (said : Said) → Again bytes claim turns now said
-      → (x : Item) → Listed list x → Holds (tableOf now) x → said ≡ refused 32 []
+  pub while-held : (x : Item) → Listed list x → Holds (tableOf now) x → said ≡ refused 32 []
   -- the least: returns that leave out a listed type do not serve
-  pub least : (turns : List Turn) (now : List ℕ) (said : Said) → Again bytes claim turns now said
-      → Served now said → (x : Item) → Listed list x → GivenBack turns x
-  -- one return for each entry, in any order: none is refused, and the request is served
-  pub in-any-order : (es : List Entry) → Reordered es list → (turns : List Turn) (now : List ℕ) (said : Said)
-      → map (λ (turn : Turn). turn .given) turns ≡ map returnOf es → Again bytes claim turns now said
+  pub least : Served now said → (x : Item) → Listed list x → GivenBack turns x
+  -- where the returns are one for each entry, in any order: none of them is refused, and the request is served
+  pub in-any-order : (es : List Entry) → Reordered es list → map (λ (turn : Turn). turn .given) turns ≡ map returnOf es
       → ((turn : Turn) → List·Memᴰ turn turns → turn .reply ≡ Done) × Served now said
+
+-- demand 2, of every table that calls reach
+abbrev pub Demand2 : Type 0
+Demand2 = (bytes : List ℕ) → Reached bytes → NoTwoConflict bytes
+
+-- demand 3, of every table that calls reach and every ask that is done there: its list is read off the bytes that it wrote
+abbrev pub Demand3 : Type 0
+Demand3 = (bytes : List ℕ) → Reached bytes
+    → (claim : Claim) (access : Access) (out : List ℕ) (count : ℕ) (after : List ℕ) → Asks bytes claim access out (Value count) after
+    → (turns : List Turn) (now : List ℕ) (said : Said) → Again bytes claim turns now said
+    → LeastThatServes (entriesIn count after) turns now said
+
+-- and an ask of a well-formed request that is permitted is done if its buffer has room for all of a table's tokens
+abbrev pub AskIsDone : Type 0
+AskIsDone = (bytes : List ℕ) → Reached bytes → (claim : Claim) → malformed claim (limit (tableOf bytes)) ≡ false
+    → (access : Access) → accessSays access (claim .types) ≡ done [] → (out : List ℕ) → 13 * 1024 ≤ length out
+    → (r : Reply) (after : List ℕ) → Asks bytes claim access out r after → (count : ℕ) × (r ≡ Value count)

@@ -50,7 +50,7 @@ module _ (bytes : List ℕ) (claim : Claim) (out : List ℕ) where
 
       pub list-end : 13 * seen .conflicts ≡ length (listFor claim (tableOf bytes))
       unfolding inTheWay
-      list-end = ap (λ (n : ℕ). 13 * n) (saw .conflicts) ∙ sym (list-length claim bytes)
+      list-end = ap (λ (n : ℕ). 13 * n) (saw .conflicts) ∙ sym (list-length claim (tableOf bytes))
 
       own : saysOf (askSays claim out) bytes ≡ listSays claim out (tableOf bytes)
       unfolding askSays requestSays limit andThen

@@ -16,6 +16,7 @@ use Rattle.words.proofs.Tests.{Each, differ, map-append, those-append, those-pa
 use Rattle.words.proofs.Written.{digits-length, over-length, over-next, over-none, set-over, next-written}
 use Rattle.claims.specs.Rule.{conflict}
 use Rattle.claims.specs.declared.claim.Claim.{Claim}
+use Rattle.table.specs.Table.{Table}
 use Rattle.table.specs.Layout.{width, slotOf, count, tableOf, joined}
 use Rattle.table.specs.Form.{isLength}
 use Rattle.table.specs.declared.slot.Slot.{Slot}
@@ -103,9 +104,9 @@ entries-length : (claim : Claim) (slots : List Slot) → length (entries claim s
 unfolding entries
 entries-length claim slots = all-long claim (those (isInTheWay claim) slots) (those-pass (isInTheWay claim) slots)
 
-pub list-length : (claim : Claim) (bytes : List ℕ) → length (listFor claim (tableOf bytes)) ≡ 13 * length (inTheWay claim (tableOf bytes))
+pub list-length : (claim : Claim) (t : Table) → length (listFor claim t) ≡ 13 * length (inTheWay claim t)
 unfolding listFor inTheWay entries
-list-length claim bytes = entries-length claim (tableOf bytes .slots)
+list-length claim t = entries-length claim (t .slots)
 
 listed : (claim : Claim) (bytes : List ℕ) → listFor claim (tableOf bytes) ≡ entries claim (tableOf bytes .slots)
 unfolding listFor inTheWay entries
@@ -149,7 +150,7 @@ module _ (bytes : List ℕ) (claim : Claim) (out₀ : List ℕ) (end : ℕ) wher
 
     pub room-left : at < end → at + 13 ≤ length out
     room-left h =
-        omega (arith, so-far .room, so-far .same, so-far .whole, so-far .place, list-length claim bytes, entries-length claim (take i (tableOf bytes .slots)))
+        omega (arith, so-far .room, so-far .same, so-far .whole, so-far .place, list-length claim (tableOf bytes), entries-length claim (take i (tableOf bytes .slots)))
 
     pub one-noted : at < end → {slot : Slot} → slot ≡ slotOf (part (width * (i + 1)) width bytes) → {next : ℕ} {after : List ℕ}
         → Lists slot claim out at next after → Noted bytes claim out₀ after end next (i + 1)
