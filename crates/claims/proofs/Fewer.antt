@@ -13,7 +13,7 @@ use Rattle.words.specs.Bit.{bit}
 use Rattle.words.proofs.Tests.{differ, fails, and-left, and-right, or-one, one-or, and-both}
 use Rattle.words.proofs.Bits.{bit-next, bit-and, bit-or}
 use Rattle.claims.specs.Types.{kinds, without, lacks}
-use Rattle.claims.proofs.Sets.{bit-zero, bit-set, in-set, some-found, some-at, empty, same-set, same-members}
+use Rattle.claims.proofs.Sets.{bit-zero, bit-set, in-set, some-found, some-at, empty, same-set, same-members, part-less}
 
 below : (n s i : ℕ) → s < 2 ^ n → bit i s ≡ true → i < n
 below zero s i h e = absurd (differ (sym e ∙ rw (lt-one h) (bit-zero i)))
@@ -41,12 +41,7 @@ module _ (held types : ℕ) where
       differ (sym (f (r .0) has) ∙ not-true (bit (r .0) held) (and-right (bit (r .0) types) (not (bit (r .0) held)) (r .2))))
 
   pub without-less : without held types ≤ held
-  without-less =
-      let e : bitAnd (without held types) held ≡ without held types =
-      same-members (bitAnd (without held types) held) (without held types)
-      (λ i p. and-left (bit i (without held types)) (bit i held) (sym (bit-and i (without held types) held) ∙ p))
-      (λ i p. bit-and i (without held types) held ∙ and-both (bit i (without held types)) (bit i held) p (in-without i p .0)) in
-      omega (arith, and-le-r (without held types) held)
+  without-less = part-less (without held types) held (λ i p. in-without i p .0)
 
   module _ (few : types < 2 ^ kinds) where
     -- some type is lacking where what both have is not all of them

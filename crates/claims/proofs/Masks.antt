@@ -15,32 +15,34 @@ use Rattle.claims.specs.Mask.{against, reach}
 use Rattle.claims.specs.declared.claim.Claim.{Claim}
 use Rattle.claims.proofs.Sets.{bit-set, set-below, in-set, some-found, some-at, same-members}
 
--- by family, as the code has it
-unfoldable masked : ℕ → ℕ
-masked types = bitOr (bitAnd types 85 * 2) (bitOr (bitAnd types 170) (bitAnd types 170 / 2))
+-- two numbers of a set of types that agree on all sets below 256, and go by the bits below 256 alone, agree on every set
+pub agree : (f g : ℕ → ℕ) → someBelow 256 (λ types. not (eqb (f types) (g types))) ≡ false
+    → ((types : ℕ) → f types ≡ f (types % 256)) → ((types : ℕ) → g types ≡ g (types % 256)) → (types : ℕ) → f types ≡ g types
+agree f g none f-low g-low types =
+    let low = types % 256 in
+    let same = eqb (f low) (g low) in
+    let h : low < 256 = omega arith in
+    let p = fails (not same) (λ e. differ (sym (some-at 256 (λ t. not (eqb (f t) (g t))) low h e) ∙ none)) in
+    f-low types ∙ eqb-true (f low) (g low) (not-false same p) ∙ sym (g-low types)
 
 -- a mask below 256 sees the bits below 256 alone
-pub low : (types mask : ℕ) → mask < 256 → bitAnd types mask ≡ bitAnd (types % 256) mask
-low types mask h =
+pub mask-low : (types mask : ℕ) → mask < 256 → bitAnd types mask ≡ bitAnd (types % 256) mask
+mask-low types mask h =
     let e : bitAnd types mask % 256 ≡ bitAnd (types % 256) (mask % 256) = and-mod types mask 8 in
     let m : mask % 256 ≡ mask = omega arith in
     let b : bitAnd types mask % 256 ≡ bitAnd types mask = omega (arith, and-le-r types mask) in
     sym b ∙ e ∙ ap (bitAnd (types % 256)) m
 
-masked-low : (types : ℕ) → masked types ≡ masked (types % 256)
-unfolding masked
-masked-low types = rw (low types 85 (omega arith), low types 170 (omega arith)) refl
-
--- the bits that count are those below 256
-pub bit-low : (i types : ℕ) → i < 8 → bit i types ≡ bit i (types % 256)
+-- and so does a search for one of the types
+bit-low : (i types : ℕ) → i < 8 → bit i types ≡ bit i (types % 256)
 unfolding setBelow
 bit-low i types h =
     let e : bit i 255 ≡ true = bit-set 8 (λ j. true) i h in
     sym (ap (bit i) (sym (and-mask types 8)) ∙ bit-and i types 255 ∙ rw e (and-true (bit i types)))
 
-against-low : (types : ℕ) → against types ≡ against (types % 256)
-unfolding against setBelow someBelow family isSecond
-against-low types =
+pub some-low : (types : ℕ) (test : ℕ → Bool) → someBelow kinds (λ i. bit i types && test i) ≡ someBelow kinds (λ i. bit i (types % 256) && test i)
+unfolding someBelow
+some-low types test =
     rw (
       bit-low 0 types (omega arith),
       bit-low 1 types (omega arith),
@@ -53,19 +55,25 @@ against-low types =
     )
     refl
 
-all-right : someBelow 256 (λ types. not (eqb (masked types) (against types))) ≡ false
-unfolding masked against setBelow someBelow family isSecond bit
-all-right = refl
+-- by family, as the code has it
+unfoldable masked : ℕ → ℕ
+masked types = bitOr (bitAnd types 85 * 2) (bitOr (bitAnd types 170) (bitAnd types 170 / 2))
 
-right-below : (types : ℕ) → types < 256 → masked types ≡ against types
-right-below types h =
-    eqb-true (masked types) (against types)
-    (not-false (eqb (masked types) (against types))
-    (fails (not (eqb (masked types) (against types))) (λ e. differ (sym (some-at 256 (λ t. not (eqb (masked t) (against t))) types h e) ∙ all-right))))
+masked-low : (types : ℕ) → masked types ≡ masked (types % 256)
+unfolding masked
+masked-low types = rw (mask-low types 85 (omega arith), mask-low types 170 (omega arith)) refl
+
+against-low : (types : ℕ) → against types ≡ against (types % 256)
+unfolding against
+against-low types = (λ k. setBelow kinds (λ i. some-low types (λ j. eqb (family i) (family j) && (isSecond i || isSecond j)) k))
+
+none-wrong : someBelow 256 (λ types. not (eqb (masked types) (against types))) ≡ false
+unfolding masked against setBelow someBelow family isSecond bit
+none-wrong = refl
 
 pub by-family : (types : ℕ) → bitOr (bitAnd types 85 * 2) (bitOr (bitAnd types 170) (bitAnd types 170 / 2)) ≡ against types
 unfolding masked
-by-family types = masked-low types ∙ right-below (types % 256) (omega arith) ∙ sym (against-low types)
+by-family = agree masked against none-wrong masked-low against-low
 
 -- the two masks of the range
 pub whole-range : (overlapping : Bool) → overlapping ≡ true → 255 ≡ reach overlapping

@@ -2,15 +2,16 @@
 use mathlib.Core.Path.{_≡_, refl, sym, _∙_}
 use mathlib.Core.Bool.{Bool, true, false}
 use mathlib.Core.Logic.{_⊎_, inl, inr, _≢_}
-use Prim.Native.Nat.{ℕ, zero, suc, _+_, _*_, _/_, _%_, _<_}
+use Prim.Native.Nat.{ℕ, zero, suc, _+_, _*_, _/_, _%_, _≤_, _<_}
 use native.Mathlib.Omega.{arith}
 use borrow.Author.Tests.{eqb-true, eqb-false, eq-eqb, ne-eqb}
 use lib.Arith.{bin-ind}
+use lib.Bits.{bitAnd, and-le-r}
 use lib.Dec.{eqb}
 use Rattle.words.specs.Test.{if_then_else_}
 use Rattle.words.specs.Bit.{bit}
-use Rattle.words.proofs.Tests.{differ, or-one, one-or, same-test}
-use Rattle.words.proofs.Bits.{bit-first, bit-next}
+use Rattle.words.proofs.Tests.{differ, and-left, and-both, or-one, one-or, same-test}
+use Rattle.words.proofs.Bits.{bit-first, bit-next, bit-and}
 use Rattle.claims.specs.Types.{setBelow, someBelow}
 
 one-lower : (b : Bool) (n : ℕ) → ((if b then 1 else 0) + 2 * n) / 2 ≡ n
@@ -98,3 +99,10 @@ same-set = bin-ind (λ (n : ℕ). (t : ℕ) → ((i : ℕ) → bit i n ≡ bit i
 
 pub same-members : (s t : ℕ) → ((i : ℕ) → bit i s ≡ true → bit i t ≡ true) → ((i : ℕ) → bit i t ≡ true → bit i s ≡ true) → s ≡ t
 same-members s t f g = same-set s t (λ i. same-test (bit i s) (bit i t) (f i) (g i))
+
+-- a set whose members are all in another is no greater a number
+pub part-less : (s t : ℕ) → ((i : ℕ) → bit i s ≡ true → bit i t ≡ true) → s ≤ t
+part-less s t f =
+    let e : bitAnd s t ≡ s =
+    same-members (bitAnd s t) s (λ i p. and-left (bit i s) (bit i t) (sym (bit-and i s t) ∙ p)) (λ i p. bit-and i s t ∙ and-both (bit i s) (bit i t) p (f i p)) in
+    omega (arith, and-le-r s t)

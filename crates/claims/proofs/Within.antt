@@ -4,15 +4,13 @@ use mathlib.Core.Bool.{true}
 use mathlib.Core.Logic.{_⊎_, inl, inr}
 use Prim.Native.Nat.{ℕ, _≤_, _<_}
 use native.Mathlib.Omega.{arith}
-use lib.Bits.{bitAnd, and-le-r}
 use Rattle.words.specs.Bit.{bit}
-use Rattle.words.proofs.Tests.{fails, and-left, and-both}
-use Rattle.words.proofs.Bits.{bit-and}
+use Rattle.words.proofs.Tests.{fails}
 use Rattle.claims.specs.Types.{kinds}
 use Rattle.claims.specs.Claim.{withTypes}
 use Rattle.claims.specs.Rule.{coversFile, conflict, Conflicting}
 use Rattle.claims.specs.declared.claim.Claim.{Claim}
-use Rattle.claims.proofs.Sets.{empty, nonempty, same-members}
+use Rattle.claims.proofs.Sets.{empty, nonempty, part-less}
 use Rattle.claims.proofs.Sentence.{by-sentence, in-conflict}
 
 -- a claims no more than b
@@ -53,12 +51,7 @@ module _ (a other : Claim) where
   conflict-own i e = let s = by-sentence a other i e .1 in (s .of-a, s .types .0)
 
   pub conflict-less : conflict a other ≤ a .types
-  conflict-less =
-      let e : bitAnd (conflict a other) (a .types) ≡ conflict a other =
-      same-members (bitAnd (conflict a other) (a .types)) (conflict a other)
-      (λ i p. and-left (bit i (conflict a other)) (bit i (a .types)) (sym (bit-and i (conflict a other) (a .types)) ∙ p))
-      (λ i p. bit-and i (conflict a other) (a .types) ∙ and-both (bit i (conflict a other)) (bit i (a .types)) p (conflict-own i p .0)) in
-      omega (arith, and-le-r (conflict a other) (a .types))
+  conflict-less = part-less (conflict a other) (a .types) (λ i p. conflict-own i p .0)
 
   -- with other types, each that it has is in the way as it was
   pub conflict-still : (types i : ℕ) → bit i (conflict a other) ≡ true → bit i types ≡ true → bit i (conflict (withTypes a types) other) ≡ true

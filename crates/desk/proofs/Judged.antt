@@ -19,8 +19,8 @@ use Rattle.table.specs.Call.{saysOf, leftOf}
 use Rattle.table.specs.declared.reply.Reply.{Reply}
 use Rattle.table.specs.declared.reply.Reply.the-variants.{Done, Refused}
 use Rattle.table.proofs.Calls.{says-ill, says-well}
-use Rattle.tokens.specs.Grant.{requestSays, serveSays, granted, grantSays as plainGrantSays, Grants as GrantsPlain}
-use Rattle.tokens.specs.Ask.{listFor, listSays, askSays as plainAskSays, Asks as AsksPlain}
+use Rattle.tokens.specs.Grant.{requestSays, serveSays, grantSays as plainGrantSays, Grants as GrantsPlain}
+use Rattle.tokens.specs.Ask.{listSays, askSays as plainAskSays, Asks as AsksPlain}
 use Rattle.desk.specs.Access.{Access, sufficient, accessSays}
 use Rattle.desk.specs.Order.{inOrder, Refuses}
 use Rattle.desk.specs.Grant.{grantSays, Grants}

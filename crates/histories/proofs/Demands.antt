@@ -1,11 +1,11 @@
 -- Demands 2 and 3 hold of every table that calls reach. Assumes nothing.
-use mathlib.Core.Path.{_≡_, refl, sym, _∙_, ap, subst}
+use mathlib.Core.Path.{_≡_, refl, sym, _∙_, ap}
 use mathlib.Core.Bool.{Bool, true, false}
-use mathlib.Core.List.{List, [], _∷_, _++_, map, List·Memᴰ}
-use mathlib.Core.Logic.{_≢_, _↔_}
+use mathlib.Core.List.{List, [], _∷_, _++_}
+use mathlib.Core.Logic.{_↔_}
 use Prim.Native.Nat.{ℕ, _*_, _≤_, _<_}
-use native.Mathlib.Omega.{arith}
 use native.Mathlib.Decide.{ℕ-discrete}
+use native.Mathlib.Omega.{arith}
 use borrow.Author.Tests.{le-ltb}
 use lib.Dec.{ltb}
 use lib.ListN.{length, getD, drop}
@@ -20,11 +20,10 @@ use Rattle.claims.proofs.Sets.{nonempty}
 use Rattle.claims.proofs.Sentence.{in-conflict}
 use Rattle.table.specs.Table.{Table, limit}
 use Rattle.table.specs.Layout.{tableOf, bytesOf}
-use Rattle.table.specs.Form.{wellFormed}
 use Rattle.table.specs.Reply.{replySays}
 use Rattle.table.specs.declared.reply.Reply.{Reply}
-use Rattle.table.specs.declared.reply.Reply.the-variants.{Done, Value}
-use Rattle.table.specs.declared.slot.Slot.the-variants.{Free, Held}
+use Rattle.table.specs.declared.reply.Reply.the-variants.{Value}
+use Rattle.table.specs.declared.slot.Slot.the-variants.{Held}
 use Rattle.table.proofs.Determined.{same-reply}
 use Rattle.table.proofs.Means.{Ordered, table-bytes, bytes-formed, order-at, below-next}
 use Rattle.tokens.specs.Grant.{isInTheWay, requestSays, serveSays, roomSays}
@@ -32,14 +31,13 @@ use Rattle.tokens.specs.Ask.{inTheWay, listFor, listSays}
 use Rattle.tokens.specs.Return.{returnSays, returned}
 use Rattle.tokens.proofs.Listed.{list-length}
 use Rattle.tokens.proofs.Kept.{return-order}
-use Rattle.audit.specs.Audit.{allApart, sound, Audits}
+use Rattle.audit.specs.Audit.{sound}
 use Rattle.audit.proofs.Exactly.{tokens-apart, apart-pairs}
 use Rattle.desk.specs.Access.{Access, accessSays}
 use Rattle.desk.specs.Order.{inOrder}
-use Rattle.desk.specs.Grant.{grantSays, Grants}
+use Rattle.desk.specs.Grant.{grantSays}
 use Rattle.desk.specs.Ask.{askSays, Asks}
-use Rattle.histories.specs.History.{Return, Reached}
-use Rattle.histories.specs.Callback.{slotAt, Item, Holds, Entry, entriesIn, Listed, Turn, Returned, GivenBack, returnOf, Reordered}
+use Rattle.histories.specs.Callback.{slotAt, Item, entriesIn, Listed, Turn, Returned, GivenBack}
 use Rattle.histories.specs.Demands.{NoTwoConflict, Again, Served, StillHeld, LeastThatServes, Demand2, Demand3, AskIsDone}
 use Rattle.histories.proofs.Soundness.{Sound}
 use Rattle.histories.proofs.Spelling.{says-there, left-there}
@@ -48,7 +46,7 @@ use Rattle.histories.proofs.Turns.{giveAll, Answered, all-sound, all-li
 use Rattle.histories.proofs.Entries.{entries, read-list}
 use Rattle.histories.proofs.Serving.{exactly, otherwise, once-returned, least}
 use Rattle.histories.proofs.Planning.{none-refused, all-given}
-use Rattle.histories.proofs.Reaching.{Stands, reached-stands}
+use Rattle.histories.proofs.Reaching.{reached-stands}
 
 -- of the bytes of a sound table
 module _ (t : Table) (s : Sound t) where

@@ -1,13 +1,13 @@
 -- The entries of an ask: each is a token's that is in the way, each such token has one, and they are what the list's bytes say. Assumes nothing.
-use mathlib.Core.Path.{_≡_, refl, sym, _∙_, ap, ap₂}
-use mathlib.Core.Bool.{Bool, true, false, cond, not}
+use mathlib.Core.Path.{_≡_, refl, sym, _∙_, ap₂}
+use mathlib.Core.Bool.{Bool, true, false, cond}
 use mathlib.Core.List.{List, [], _∷_, _++_, map, append-assoc, List·Memᴰ, List·Memᴰ·head, List·Memᴰ·tail, List·Memᴰ·not-nil, List·Memᴰ·cases-cons}
 use mathlib.Core.Logic.{_≢_, _⊎_, inl, inr}
-use Prim.Native.Nat.{ℕ, zero, suc, _^_, _≤_, _<_}
+use Prim.Native.Nat.{ℕ, zero, suc, _^_, _<_}
 use native.Mathlib.Omega.{arith}
-use borrow.Author.Tests.{eqb-false, ne-eqb, not-true}
+use borrow.Author.Tests.{eqb-false, not-true}
 use lib.Dec.{eqb}
-use lib.ListN.{length, getD, take, drop}
+use lib.ListN.{length, getD}
 use lib.Seq.{take-at, drop-at}
 use Rattle.words.specs.Test.{those}
 use Rattle.words.specs.Number.{numberFrom, within, numberAt}
@@ -24,8 +24,7 @@ use Rattle.table.specs.declared.slot.Slot.the-variants.{Free, Held}
 use Rattle.table.proofs.Means.{Ordered, InOrder, below-next}
 use Rattle.tokens.specs.Grant.{isInTheWay}
 use Rattle.tokens.specs.Ask.{entryBytes, entryFor, inTheWay, listFor}
-use Rattle.histories.specs.Callback.{slotAt, Entry, entryIn, entriesIn}
-use Rattle.histories.proofs.Turns.{not-held}
+use Rattle.histories.specs.Callback.{Entry, entryIn, entriesIn}
 
 module _ (claim : Claim) where
   unfoldable pub entryOf : Slot → Entry

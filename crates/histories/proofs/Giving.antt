@@ -1,14 +1,12 @@
 -- What a return does to a table: the token that it names loses the types, and nothing else changes. Assumes nothing.
 use mathlib.Core.Path.{_≡_, refl, sym, _∙_, ap}
-use mathlib.Core.Bool.{Bool, true, false, not, _&&_}
+use mathlib.Core.Bool.{Bool, true, false, not}
 use mathlib.Core.List.{List, []}
-use mathlib.Core.Logic.{_≢_}
-use Prim.Native.Nat.{ℕ, _≤_, _<_}
-use native.Mathlib.Nat.{le-refl, le-of-eq}
-use native.Mathlib.Omega.{arith}
-use borrow.Author.Tests.{eqb-true, not-false}
+use Prim.Native.Nat.{ℕ, _<_}
+use native.Mathlib.Nat.{le-of-eq}
+use borrow.Author.Tests.{eqb-true}
 use lib.Dec.{eqb}
-use lib.ListN.{length, getD, set}
+use lib.ListN.{length}
 use Rattle.words.specs.Test.{if_then_else_, anyOf}
 use Rattle.words.specs.Said.{Said, done, refused}
 use Rattle.words.specs.Bit.{bit}
@@ -19,7 +17,7 @@ use Rattle.claims.specs.Claim.{withTypes, unfit}
 use Rattle.claims.specs.declared.claim.Claim.{Claim}
 use Rattle.claims.proofs.Fewer.{in-without}
 use Rattle.claims.proofs.Within.{Within}
-use Rattle.table.specs.Table.{Table, limit, put}
+use Rattle.table.specs.Table.{Table, limit}
 use Rattle.table.specs.declared.slot.Slot.{Slot}
 use Rattle.table.specs.declared.slot.Slot.the-variants.{Free, Held}
 use Rattle.tokens.specs.Return.{isOf, typesIn, keeps, loses, placeIn, tokenIn, returnSays, returned}
@@ -27,7 +25,7 @@ use Rattle.tokens.proofs.Kept.{return-order}
 use Rattle.histories.specs.History.{Return}
 use Rattle.histories.specs.Callback.{slotAt}
 use Rattle.histories.proofs.Places.{place-in, there, at-set}
-use Rattle.histories.proofs.Soundness.{AllApart, Sound, Less, Shrunk, shrunk-apart}
+use Rattle.histories.proofs.Soundness.{Sound, Shrunk, shrunk-apart}
 use Rattle.histories.proofs.Spelling.{next}
 
 -- a slot that is free now, or whose token is the old one with fewer types

@@ -1,9 +1,9 @@
 -- One return for each entry of an ask's list, in any order: none of them is refused. Assumes nothing.
-use mathlib.Core.Path.{_≡_, refl, sym, _∙_, ap, subst}
+use mathlib.Core.Path.{_≡_, refl, sym, _∙_, ap}
 use mathlib.Core.Bool.{Bool, true, false, cond, not, _||_, _&&_}
 use mathlib.Core.List.{List, [], _∷_, map, List·Memᴰ, List·Memᴰ·head, List·Memᴰ·tail, List·Memᴰ·not-nil, List·Memᴰ·cases-cons}
 use mathlib.Core.Logic.{_≢_, _⊎_, inl, inr}
-use Prim.Native.Nat.{ℕ, suc, _≤_, _<_}
+use Prim.Native.Nat.{ℕ, suc, _≤_}
 use native.Mathlib.Omega.{arith}
 use borrow.Author.Tests.{eqb-true, eq-eqb, ne-eqb, le-ltb, ltb-false, not-true}
 use lib.Dec.{eqb, ltb}
@@ -12,7 +12,7 @@ use lib.Seq.{getD-set-other}
 use Rattle.words.specs.Test.{those}
 use Rattle.words.specs.Said.{done}
 use Rattle.words.specs.Bit.{bit}
-use Rattle.words.proofs.Tests.{differ, and-left, and-right, and-both, or-left, or-right}
+use Rattle.words.proofs.Tests.{differ, and-left, and-both, or-left, or-right}
 use Rattle.claims.specs.Claim.{unfit, malformed}
 use Rattle.claims.specs.Rule.{conflict}
 use Rattle.claims.specs.declared.claim.Claim.{Claim}

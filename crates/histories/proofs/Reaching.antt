@@ -2,16 +2,14 @@
 use mathlib.Core.Path.{_≡_, refl, sym, _∙_, ap}
 use mathlib.Core.Bool.{Bool, true, false}
 use mathlib.Core.List.{List, [], _∷_, map}
-use mathlib.Core.Logic.{_≢_, _⊎_, inl, inr}
+use mathlib.Core.Logic.{_⊎_, inl, inr}
 use Prim.Native.Nat.{ℕ, zero, suc, _≤_}
 use native.Mathlib.Nat.{le-refl}
-use native.Mathlib.Omega.{arith}
 use lib.ListN.{length, getD, replicate, length-replicate, List·getD-map}
 use Rattle.words.specs.Test.{if_then_else_}
 use Rattle.words.specs.Said.{Said, done, refused, andThen, left}
 use Rattle.words.proofs.Left.{left-whole, not-done}
 use Rattle.claims.specs.declared.claim.Claim.{Claim}
-use Rattle.claims.proofs.Within.{Within}
 use Rattle.table.specs.Table.{Table}
 use Rattle.table.specs.Layout.{Fits, count, bytesOf}
 use Rattle.table.specs.Form.{isLength}
@@ -33,9 +31,9 @@ use Rattle.audit.proofs.Exactly.{from-free}
 use Rattle.desk.specs.Access.{Access, accessSays}
 use Rattle.desk.specs.Order.{inOrder}
 use Rattle.desk.specs.Grant.{grantSays}
-use Rattle.histories.specs.History.{Return, Call, toFill, toAsk, toAskUnjudged, toGrant, toGrantUnjudged, toReturn, toDropHost, toAudit, Leaves, Runs, Reached}
+use Rattle.histories.specs.History.{Call, toFill, toAsk, toAskUnjudged, toGrant, toGrantUnjudged, toReturn, toDropHost, toAudit, Leaves, Runs, Reached}
 use Rattle.histories.specs.Callback.{slotAt}
-use Rattle.histories.proofs.Soundness.{AllApart, Sound, Shrunk, shrunk-apart, granted-apart}
+use Rattle.histories.proofs.Soundness.{Sound, Shrunk, shrunk-apart, granted-apart}
 use Rattle.histories.proofs.Spelling.{next, left-there}
 use Rattle.histories.proofs.Giving.{gave-sound}
 

@@ -1,25 +1,22 @@
 -- After any returns a request is refused for conflict exactly while a listed type is still held, and otherwise served. Assumes nothing.
-use mathlib.Core.Path.{_≡_, refl, sym, _∙_, ap, subst}
+use mathlib.Core.Path.{_≡_, refl, sym, _∙_, ap}
 use mathlib.Core.Bool.{Bool, true, false, not}
 use mathlib.Core.List.{List, [], _∷_, List·Memᴰ}
 use mathlib.Core.Logic.{_≢_, _↔_}
-use Prim.Native.Nat.{ℕ, _<_}
+use Prim.Native.Nat.{ℕ}
 use native.Mathlib.Omega.{arith}
 use borrow.Author.Tests.{eqb-false, ne-eqb, not-true}
 use lib.Dec.{eqb}
-use lib.ListN.{getD}
 use Rattle.words.specs.Test.{if_then_else_, anyOf, placeOf}
 use Rattle.words.specs.Said.{Said, done, refused}
 use Rattle.words.specs.Bit.{bit}
 use Rattle.words.proofs.Tests.{differ, fails}
-use Rattle.words.proofs.Left.{not-done}
-use Rattle.claims.specs.Types.{kinds}
 use Rattle.claims.specs.Rule.{conflict}
 use Rattle.claims.specs.Claim.{withTypes}
 use Rattle.claims.specs.declared.claim.Claim.{Claim}
 use Rattle.claims.proofs.Sets.{nonempty, member}
-use Rattle.claims.proofs.Within.{Within, conflict-within, conflict-own, conflict-still}
-use Rattle.table.specs.Table.{Table, limit}
+use Rattle.claims.proofs.Within.{conflict-within, conflict-own, conflict-still}
+use Rattle.table.specs.Table.{Table}
 use Rattle.table.specs.declared.slot.Slot.{Slot}
 use Rattle.table.specs.declared.slot.Slot.the-variants.{Free, Held}
 use Rattle.tokens.specs.Grant.{isFree, isInTheWay, lastNumber, roomSays, serveSays}
@@ -27,8 +24,8 @@ use Rattle.histories.specs.Callback.{slotAt, Item, Holds, Entry, Listed,
 use Rattle.histories.proofs.Places.{any-at, there}
 use Rattle.histories.proofs.Soundness.{Sound, free-harmless}
 use Rattle.histories.proofs.Giving.{within}
-use Rattle.histories.proofs.Turns.{giveAll, Answered, KeptTable, all-kept, Was, was, one-token, given-gone, lost-given}
-use Rattle.histories.proofs.Entries.{entryOf, entries, Source, source, entry-in}
+use Rattle.histories.proofs.Turns.{giveAll, Answered, KeptTable, all-kept, was, one-token, given-gone, lost-given}
+use Rattle.histories.proofs.Entries.{entryOf, entries, source, entry-in}
 
 -- the number of a refusal
 numberOf : Said → ℕ

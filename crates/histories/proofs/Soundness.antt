@@ -1,7 +1,7 @@
 -- The invariant: a table in order whose numbers differ and in which nothing conflicts; and the two changes that keep it: tokens that claim
 -- less, and one token more that nothing is in the way of. Assumes nothing.
 use mathlib.Core.Path.{_≡_, refl, sym, _∙_}
-use mathlib.Core.Bool.{Bool, true, false, not}
+use mathlib.Core.Bool.{true, false}
 use mathlib.Core.List.{List}
 use mathlib.Core.Logic.{_≢_}
 use Prim.Native.Nat.{ℕ, _<_}
@@ -9,7 +9,7 @@ use native.Mathlib.Omega.{arith}
 use borrow.Author.Tests.{eqb-true, not-false}
 use lib.Dec.{eqb}
 use lib.ListN.{length, getD}
-use Rattle.words.specs.Test.{anyOf, placeOf}
+use Rattle.words.specs.Test.{placeOf}
 use Rattle.claims.specs.Rule.{conflict}
 use Rattle.claims.specs.declared.claim.Claim.{Claim}
 use Rattle.claims.proofs.Symmetry.{symmetric}
@@ -84,15 +84,16 @@ free-harmless claim = refl
 
 pub granted-apart : (t : Table) → Sound t → (claim : Claim) → Passed claim t → AllApart (granted claim t)
 unfolding granted
-granted-apart t sound claim p = record { at = λ i j d.
-    at-set (λ s. apart s (getD new j Free) ≡ true) (t .slots) k i token inside
-    (λ e. at-set (λ s. apart token s ≡ true) (t .slots) k j token inside
-    (λ e′. absurd (d (e ∙ sym e′)))
-    (λ n. new-first (limit t) (t .next) claim (slotAt t j) (order-at t (sound .order) j) (none j)))
-    (λ n. at-set (λ s. apart (slotAt t i) s ≡ true) (t .slots) k j token inside
-    (λ e′. new-last (limit t) (t .next) claim (slotAt t i) (order-at t (sound .order) i) (none i))
-    (λ n′. sound .all .at i j d));
-  }
+granted-apart t sound claim p = record {
+  at = λ i j d.
+      at-set (λ s. apart s (getD new j Free) ≡ true) (t .slots) k i token inside
+      (λ e. at-set (λ s. apart token s ≡ true) (t .slots) k j token inside
+      (λ e′. absurd (d (e ∙ sym e′)))
+      (λ n. new-first (limit t) (t .next) claim (slotAt t j) (order-at t (sound .order) j) (none j)))
+      (λ n. at-set (λ s. apart (slotAt t i) s ≡ true) (t .slots) k j token inside
+      (λ e′. new-last (limit t) (t .next) claim (slotAt t i) (order-at t (sound .order) i) (none i))
+      (λ n′. sound .all .at i j d));
+}
   where
     k : ℕ
     k = placeOf isFree (t .slots)

@@ -2,13 +2,12 @@
 use mathlib.Core.Path.{_≡_, refl, sym, _∙_, ap, subst}
 use mathlib.Core.Bool.{Bool, true, false}
 use mathlib.Core.List.{List, [], _∷_, List·Memᴰ, List·Memᴰ·head, List·Memᴰ·tail, List·Memᴰ·not-nil}
-use mathlib.Core.Logic.{_≢_}
 use Prim.Native.Nat.{ℕ, _<_}
-use native.Mathlib.Omega.{arith}
 use native.Mathlib.Decide.{ℕ-discrete}
+use native.Mathlib.Omega.{arith}
 use borrow.Author.Tests.{eqb-true}
 use lib.Dec.{eqb}
-use lib.ListN.{length, getD, set}
+use lib.ListN.{getD, set}
 use lib.Seq.{getD-set-same, getD-set-other}
 use Rattle.words.specs.Test.{if_then_else_}
 use Rattle.words.specs.Said.{Said, done, refused}
@@ -21,7 +20,6 @@ use Rattle.claims.proofs.Sets.{nonempty}
 use Rattle.claims.proofs.Fewer.{in-without, without-in}
 use Rattle.table.specs.Table.{Table, limit}
 use Rattle.table.specs.Reply.{replySays}
-use Rattle.table.specs.declared.reply.Reply.{Reply}
 use Rattle.table.specs.declared.reply.Reply.the-variants.{Done}
 use Rattle.table.specs.declared.slot.Slot.{Slot}
 use Rattle.table.specs.declared.slot.Slot.the-variants.{Free, Held}
@@ -49,10 +47,11 @@ pub record KeptTable (t t₀ : Table) : Type 0 where
 pub all-kept : (turns : List Turn) (t : Table) → KeptTable (giveAll turns t) t
 unfolding giveAll
 all-kept [] t = record { at = λ i. kept-refl (slotAt t i) }
-all-kept (turn ∷ turns) t = record { at = λ i.
-    kept-trans (slotAt (giveAll turns (give (turn .given) t)) i) (slotAt (give (turn .given) t) i) (slotAt t i)
-    (all-kept turns (give (turn .given) t) .at i) (give-kept (turn .given) t i);
-  }
+all-kept (turn ∷ turns) t = record {
+  at = λ i.
+      kept-trans (slotAt (giveAll turns (give (turn .given) t)) i) (slotAt (give (turn .given) t) i) (slotAt t i)
+      (all-kept turns (give (turn .given) t) .at i) (give-kept (turn .given) t i);
+}
 
 pub all-sound : (turns : List Turn) (t : Table) → Sound t → Sound (giveAll turns t)
 unfolding giveAll

@@ -4,7 +4,7 @@ use mathlib.Core.List.{List, _++_, append-nil}
 use Prim.Native.Nat.{ℕ}
 use native.Mathlib.Nat.{le-of-eq}
 use lib.ListN.{length, drop-of-length-le}
-use Rattle.words.specs.Said.{Said, done, refused, isDone, left}
+use Rattle.words.specs.Said.{done, refused, isDone, left}
 use Rattle.words.proofs.Tests.{differ}
 
 -- new bytes that fill it

@@ -1,8 +1,8 @@
 use mathlib.Core.Path.{sym, _∙_}
+use borrow.Author.Needs.{needs}
 use borrow.Author.Tests.{not-true, not-false}
 use Rattle.desk.specs.Access.{accessOf}
 use Rattle.desk.proofs.Judged.{granting, not-granting}
-use borrow.Author.Needs.{needs}
 use Rattle.desk.proofs.granting.grant.Statement.{statement}
 use Rattle.desk.proofs.granting.grant.Tie as tie
 

@@ -1,8 +1,8 @@
 use mathlib.Core.Path.{refl}
+use borrow.Author.Needs.{needs}
 use Rattle.rights.specs.Deciding.{answerSays}
 use Rattle.table.specs.Reply.{replySays}
 use Rattle.desk.specs.Access.{permits}
-use borrow.Author.Needs.{needs}
 use Rattle.desk.proofs.judging.by_answer.Statement.{statement}
 use Rattle.desk.proofs.judging.by_answer.Tie as tie
 

@@ -1,7 +1,7 @@
 use mathlib.Core.Path.{refl}
+use borrow.Author.Needs.{needs}
 use Rattle.words.specs.Said.{isDone}
 use Rattle.table.specs.Reply.{replySays}
-use borrow.Author.Needs.{needs}
 use Rattle.desk.proofs.judging.is_permitted.Statement.{statement}
 use Rattle.desk.proofs.judging.is_permitted.Tie as tie
 

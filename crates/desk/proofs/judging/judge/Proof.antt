@@ -1,6 +1,6 @@
 use mathlib.Core.Path.{refl, _∙_}
-use Rattle.desk.specs.Access.{accessSays}
 use borrow.Author.Needs.{needs}
+use Rattle.desk.specs.Access.{accessSays}
 use Rattle.desk.proofs.judging.judge.Statement.{statement}
 use Rattle.desk.proofs.judging.judge.Tie as tie
 

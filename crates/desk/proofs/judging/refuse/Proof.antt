@@ -1,6 +1,6 @@
+use borrow.Author.Needs.{needs}
 use borrow.Author.Tests.{not-true, not-false}
 use Rattle.desk.proofs.Judged.{ill-formed, misshapen, by-verdict}
-use borrow.Author.Needs.{needs}
 use Rattle.desk.proofs.judging.refuse.Statement.{statement}
 use Rattle.desk.proofs.judging.refuse.Tie as tie
 

@@ -1,5 +1,5 @@
-use Rattle.desk.proofs.Masks.{by-masks}
 use borrow.Author.Needs.{needs}
+use Rattle.desk.proofs.Masks.{by-masks}
 use Rattle.desk.proofs.needs.needed_rights.Statement.{statement}
 use Rattle.desk.proofs.needs.needed_rights.Tie as tie
 
