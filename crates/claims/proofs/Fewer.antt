@@ -7,10 +7,10 @@ use native.Mathlib.Nat.{pow-suc}
 use native.Mathlib.Omega.{arith}
 use borrow.Author.Tests.{eqb-true, eq-eqb, ne-eqb, not-true, not-false}
 use lib.Arith.{lt-one}
-use lib.Bits.{bitAnd, bitOr, or-disjoint, and-le-r, and-le-l}
+use lib.Bits.{bitAnd, bitOr, or-disjoint, and-le-l}
 use lib.Dec.{eqb}
 use Rattle.words.specs.Bit.{bit}
-use Rattle.words.proofs.Tests.{differ, fails, and-left, and-right, or-one, one-or, and-both}
+use Rattle.words.proofs.Tests.{differ, fails, and-left, and-right, or-one, one-or}
 use Rattle.words.proofs.Bits.{bit-next, bit-and, bit-or}
 use Rattle.claims.specs.Types.{kinds, without, lacks}
 use Rattle.claims.proofs.Sets.{bit-zero, bit-set, in-set, some-found, some-at, empty, same-set, same-members, part-less}

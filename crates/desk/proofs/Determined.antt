@@ -1,21 +1,13 @@
 -- Two outcomes that meet a statement are equal. Assumes nothing.
 use mathlib.Core.Path.{_≡_, sym, _∙_}
-use mathlib.Core.Bool.{Bool}
 use mathlib.Core.List.{List}
 use Prim.Native.Nat.{ℕ}
 use Rattle.claims.specs.declared.claim.Claim.{Claim}
 use Rattle.table.specs.declared.reply.Reply.{Reply}
 use Rattle.table.proofs.Determined.{same-reply}
-use Rattle.desk.specs.Needs.{Needs}
-use Rattle.desk.specs.Access.{Access, Judges}
+use Rattle.access.specs.Access.{Access}
 use Rattle.desk.specs.Grant.{Grants}
 use Rattle.desk.specs.Ask.{Asks}
-
-pub needed-rights-determined : (types : ℕ) (dir : Bool) (r r′ : ℕ) → Needs types dir r → Needs types dir r′ → r ≡ r′
-needed-rights-determined types dir r r′ p q = p .answer ∙ sym (q .answer)
-
-pub judge-determined : (access : Access) (types : ℕ) (r r′ : Reply) → Judges access types r → Judges access types r′ → r ≡ r′
-judge-determined access types r r′ p q = same-reply r r′ (p .answer) (q .answer)
 
 module _ (bytes : List ℕ) (claim : Claim) (access : Access) where
   pub grant-determined : (r r′ : Reply) (after after′ : List ℕ) → Grants bytes claim access r after → Grants bytes claim access r′ after′ → (r ≡ r′) × (after ≡ after′)

@@ -2,13 +2,11 @@
 use mathlib.Core.Path.{_≡_, refl, sym, _∙_}
 use mathlib.Core.Bool.{Bool, true, false}
 use mathlib.Core.List.{List, []}
-use mathlib.Core.Logic.{_≢_}
 use Prim.Native.Nat.{ℕ}
-use borrow.Author.Tests.{eq-eqb, ne-eqb}
-use lib.Bits.{bitAnd}
 use Rattle.words.specs.Test.{if_then_else_}
-use Rattle.words.specs.Said.{Said, done, refused, isDone, andThen, left}
+use Rattle.words.specs.Said.{Said, done, refused, isDone, andThen}
 use Rattle.words.proofs.Tests.{differ}
+use Rattle.words.proofs.Left.{left-kept}
 use Rattle.claims.specs.Claim.{malformed}
 use Rattle.claims.specs.declared.claim.Claim.{Claim}
 use Rattle.table.specs.Table.{Table, limit}
@@ -17,30 +15,14 @@ use Rattle.table.specs.Form.{wellFormed}
 use Rattle.table.specs.Reply.{replySays}
 use Rattle.table.specs.Call.{saysOf, leftOf}
 use Rattle.table.specs.declared.reply.Reply.{Reply}
-use Rattle.table.specs.declared.reply.Reply.the-variants.{Done, Refused}
+use Rattle.table.specs.declared.reply.Reply.the-variants.{Refused}
 use Rattle.table.proofs.Calls.{says-ill, says-well}
 use Rattle.tokens.specs.Grant.{requestSays, serveSays, grantSays as plainGrantSays, Grants as GrantsPlain}
 use Rattle.tokens.specs.Ask.{listSays, askSays as plainAskSays, Asks as AsksPlain}
-use Rattle.desk.specs.Access.{Access, sufficient, accessSays}
+use Rattle.access.specs.Access.{Access, accessSays}
 use Rattle.desk.specs.Order.{inOrder, Refuses}
 use Rattle.desk.specs.Grant.{grantSays, Grants}
 use Rattle.desk.specs.Ask.{askSays, Asks}
-
--- 24, or not, by the test as the code makes it
-module _ (rights needs : ℕ) where
-  pub missing : bitAnd rights needs ≢ needs → replySays (Refused 24) ≡ sufficient rights needs
-  unfolding replySays sufficient
-  missing e = rw (ne-eqb (bitAnd rights needs) needs e) refl
-
-  pub enough : bitAnd rights needs ≡ needs → replySays Done ≡ sufficient rights needs
-  unfolding replySays sufficient
-  enough e = rw (eq-eqb (bitAnd rights needs) needs e) refl
-
--- what is refused leaves a buffer as it was
-kept : (said : Said) (new old : List ℕ) → isDone said ≡ false → left said new old ≡ old
-unfolding isDone left
-kept (done values) new old e = absurd (differ e)
-kept (refused number values) new old e = refl
 
 -- whatever comes first, a verdict that is done lets the call's own follow, and one that is not stands
 follows : (first verdict own : Said) → isDone verdict ≡ true → andThen first (andThen verdict own) ≡ andThen first own
@@ -124,12 +106,12 @@ module _ (bytes : List ℕ) (claim : Claim) where
       unfolding grantSays leftOf
       not-granting = record {
         answer = says (serveSays claim);
-        table-after = sym (kept (saysOf (grantSays claim access) bytes) _ bytes (is-refused (accessSays access (claim .types)) (serveSays claim) wrong));
+        table-after = sym (left-kept (saysOf (grantSays claim access) bytes) _ bytes (is-refused (accessSays access (claim .types)) (serveSays claim) wrong));
       }
 
       pub not-asking : {out : List ℕ} → Asks bytes claim access out r out
       unfolding askSays
       not-asking {out} = record {
         answer = says (listSays claim out);
-        out-after = sym (kept (saysOf (askSays claim access out) bytes) _ out (is-refused (accessSays access (claim .types)) (listSays claim out) wrong));
+        out-after = sym (left-kept (saysOf (askSays claim access out) bytes) _ out (is-refused (accessSays access (claim .types)) (listSays claim out) wrong));
       }

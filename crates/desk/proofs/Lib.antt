@@ -1,4 +1,3 @@
-pub mod Masks
 pub mod Judged
 pub mod Determined
 pub mod Opened

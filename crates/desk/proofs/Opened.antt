@@ -1,8 +1,8 @@
 -- All definitions of this crate and of those below it, opened by one name. Assumes nothing.
 use Rattle.rights.proofs.Opened.{all as rights}
 use Rattle.tokens.proofs.Opened.{all as tokens}
-use Rattle.desk.specs.Needs.{needs, need, needed}
-use Rattle.desk.specs.Access.{sufficient, permits, accessSays}
+use Rattle.access.specs.Needs.{needs, need, needed}
+use Rattle.access.specs.Access.{sufficient, permits, accessSays}
 use Rattle.desk.specs.Order.{inOrder}
 use Rattle.desk.specs.Grant.{grantSays}
 use Rattle.desk.specs.Ask.{askSays}

@@ -10,7 +10,7 @@ use Rattle.table.specs.Reply.{replySays}
 use Rattle.table.specs.Call.{saysOf}
 use Rattle.table.specs.declared.reply.Reply.{Reply}
 use Rattle.tokens.specs.Ask.{listFor, listSays}
-use Rattle.desk.specs.Access.{Access, accessSays}
+use Rattle.access.specs.Access.{Access, accessSays}
 use Rattle.desk.specs.Order.{inOrder}
 
 unfoldable pub askSays : Claim → Access → List ℕ → Table → Said

@@ -17,8 +17,8 @@ use Rattle.table.specs.Call.{saysOf, leftOf}
 use Rattle.tokens.specs.Grant.{granted}
 use Rattle.tokens.specs.Ask.{listFor}
 use Rattle.tokens.specs.Day.{claim, empty, one, two, back, three}
-use Rattle.desk.specs.Needs.{needed}
-use Rattle.desk.specs.Access.{Access, accessOf, accessSays}
+use Rattle.access.specs.Needs.{needed}
+use Rattle.access.specs.Access.{Access, accessOf, accessSays}
 use Rattle.desk.specs.Grant.{grantSays}
 use Rattle.desk.specs.Ask.{askSays}
 

@@ -9,7 +9,7 @@ use Rattle.table.specs.Reply.{replySays}
 use Rattle.table.specs.Call.{saysOf, leftOf}
 use Rattle.table.specs.declared.reply.Reply.{Reply}
 use Rattle.tokens.specs.Grant.{serveSays, granted}
-use Rattle.desk.specs.Access.{Access, accessSays}
+use Rattle.access.specs.Access.{Access, accessSays}
 use Rattle.desk.specs.Order.{inOrder}
 
 unfoldable pub grantSays : Claim → Access → Table → Said

@@ -1,5 +1,3 @@
-pub mod Needs
-pub mod Access
 pub mod Order
 pub mod Grant
 pub mod Ask

@@ -1,13 +1,13 @@
 // Asking what is in the way of a request that its caller may make.
-use crate::judging::is_permitted;
-use crate::judging::judge;
-use crate::judging::refuse;
+use crate::refusing::is_permitted;
+use crate::refusing::refuse;
+use access::judge;
 use claims::Claim;
 use evaluate::Caller;
 use evaluate::File;
 use rights::Guard;
 use table::Reply;
-ghost use Rattle.desk.specs.Access.{accessOf};
+ghost use Rattle.access.specs.Access.{accessOf};
 ghost use Rattle.desk.specs.Ask.{Asks};
 
 // Each token in the way is listed in slot order; the answer is their count.

@@ -1,13 +1,13 @@
 // Granting a token to a caller who may have it.
-use crate::judging::is_permitted;
-use crate::judging::judge;
-use crate::judging::refuse;
+use crate::refusing::is_permitted;
+use crate::refusing::refuse;
+use access::judge;
 use claims::Claim;
 use evaluate::Caller;
 use evaluate::File;
 use rights::Guard;
 use table::Reply;
-ghost use Rattle.desk.specs.Access.{accessOf};
+ghost use Rattle.access.specs.Access.{accessOf};
 ghost use Rattle.desk.specs.Grant.{Grants};
 
 // The answer is the new token's number.

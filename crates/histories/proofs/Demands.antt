@@ -1,4 +1,4 @@
--- Demands 2 and 3 hold of every table that calls reach. Assumes nothing.
+-- The customer's demands hold of every table that calls reach. Assumes nothing.
 use mathlib.Core.Path.{_≡_, refl, sym, _∙_, ap}
 use mathlib.Core.Bool.{Bool, true, false}
 use mathlib.Core.List.{List, [], _∷_, _++_}
@@ -10,9 +10,9 @@ use borrow.Author.Tests.{le-ltb}
 use lib.Dec.{ltb}
 use lib.ListN.{length, getD, drop}
 use Rattle.words.specs.Test.{if_then_else_}
-use Rattle.words.specs.Said.{Said, done, refused, andThen, left}
+use Rattle.words.specs.Said.{Said, done, refused, isDone, andThen, left}
 use Rattle.words.proofs.Tests.{those-few}
-use Rattle.words.proofs.Left.{not-done}
+use Rattle.words.proofs.Left.{left-kept, not-done}
 use Rattle.claims.specs.Claim.{malformed}
 use Rattle.claims.specs.Rule.{Conflicting}
 use Rattle.claims.specs.declared.claim.Claim.{Claim}
@@ -21,6 +21,7 @@ use Rattle.claims.proofs.Sentence.{in-conflict}
 use Rattle.table.specs.Table.{Table, limit}
 use Rattle.table.specs.Layout.{tableOf, bytesOf}
 use Rattle.table.specs.Reply.{replySays}
+use Rattle.table.specs.Call.{saysOf, leftOf}
 use Rattle.table.specs.declared.reply.Reply.{Reply}
 use Rattle.table.specs.declared.reply.Reply.the-variants.{Value}
 use Rattle.table.specs.declared.slot.Slot.the-variants.{Held}
@@ -33,12 +34,12 @@ use Rattle.tokens.proofs.Listed.{list-length}
 use Rattle.tokens.proofs.Kept.{return-order}
 use Rattle.audit.specs.Audit.{sound}
 use Rattle.audit.proofs.Exactly.{tokens-apart, apart-pairs}
-use Rattle.desk.specs.Access.{Access, accessSays}
+use Rattle.access.specs.Access.{Access, accessSays}
 use Rattle.desk.specs.Order.{inOrder}
 use Rattle.desk.specs.Grant.{grantSays}
 use Rattle.desk.specs.Ask.{askSays, Asks}
 use Rattle.histories.specs.Callback.{slotAt, Item, entriesIn, Listed, Turn, Returned, GivenBack}
-use Rattle.histories.specs.Demands.{NoTwoConflict, Again, Served, StillHeld, LeastThatServes, Demand2, Demand3, AskIsDone}
+use Rattle.histories.specs.Demands.{NoTwoConflict, Again, Served, StillHeld, LeastThatServes, Demand1, Demand2, Demand3, AskIsDone}
 use Rattle.histories.proofs.Soundness.{Sound}
 use Rattle.histories.proofs.Spelling.{says-there, left-there}
 use Rattle.histories.proofs.Giving.{says, give, give-sound}
@@ -47,6 +48,23 @@ use Rattle.histories.proofs.Entries.{entries, read-list}
 use Rattle.histories.proofs.Serving.{exactly, otherwise, once-returned, least}
 use Rattle.histories.proofs.Planning.{none-refused, all-given}
 use Rattle.histories.proofs.Reaching.{reached-stands}
+
+module _ (r : Reply) (refusal : isDone (replySays r) ≡ false) where
+  unchanged : {said : Said} (new old after : List ℕ) → replySays r ≡ said → after ≡ left said new old → after ≡ old
+  unchanged {said} new old after p e = e ∙ left-kept said new old (rw (← p) refusal)
+
+  left-unchanged : (says : Table → Said) (changed : Table → Table) (bytes after : List ℕ) → replySays r ≡ saysOf says bytes → after ≡ leftOf says changed bytes → after ≡ bytes
+  unfolding leftOf
+  left-unchanged says changed bytes after p e = unchanged (bytesOf (changed (tableOf bytes))) bytes after p e
+
+pub demand1 : Demand1
+demand1 r refusal = record {
+  fill = λ bytes after f. unchanged r refusal _ bytes after (f .answer) (f .table-after);
+  ask = λ bytes out after claim access a. unchanged r refusal _ out after (a .answer) (a .out-after);
+  grant = λ bytes after claim access g. left-unchanged r refusal _ _ bytes after (g .answer) (g .table-after);
+  give-back = λ bytes after host number types g. left-unchanged r refusal _ _ bytes after (g .answer) (g .table-after);
+  drop-host = λ bytes after host d. left-unchanged r refusal _ _ bytes after (d .answer) (d .table-after);
+}
 
 -- of the bytes of a sound table
 module _ (t : Table) (s : Sound t) where

@@ -28,7 +28,7 @@ use Rattle.tokens.specs.Return.{returnSays, returned}
 use Rattle.tokens.specs.DropHost.{isHosts, freed, dropSays, dropped}
 use Rattle.tokens.proofs.Kept.{passed, grant-order, return-order, drop-order}
 use Rattle.audit.proofs.Exactly.{from-free}
-use Rattle.desk.specs.Access.{Access, accessSays}
+use Rattle.access.specs.Access.{Access, accessSays}
 use Rattle.desk.specs.Order.{inOrder}
 use Rattle.desk.specs.Grant.{grantSays}
 use Rattle.histories.specs.History.{Call, toFill, toAsk, toAskUnjudged, toGrant, toGrantUnjudged, toReturn, toDropHost, toAudit, Leaves, Runs, Reached}

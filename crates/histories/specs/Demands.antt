@@ -1,11 +1,11 @@
--- The customer's demands 2 and 3, of every table that calls reach.
+-- The customer's demands, of every table that calls reach.
 use mathlib.Core.Path.{_≡_}
 use mathlib.Core.Bool.{Bool, true, false}
 use mathlib.Core.List.{List, [], map, List·Memᴰ}
 use mathlib.Core.Logic.{_≢_, _↔_}
 use Prim.Native.Nat.{ℕ, _*_, _≤_, _<_}
 use lib.ListN.{length}
-use Rattle.words.specs.Said.{Said, done, refused}
+use Rattle.words.specs.Said.{Said, done, refused, isDone}
 use Rattle.claims.specs.Claim.{malformed}
 use Rattle.claims.specs.Rule.{Conflicting}
 use Rattle.claims.specs.declared.claim.Claim.{Claim}
@@ -13,16 +13,27 @@ use Rattle.table.specs.Table.{limit}
 use Rattle.table.specs.Layout.{tableOf}
 use Rattle.table.specs.Form.{wellFormed}
 use Rattle.table.specs.Reply.{replySays}
+use Rattle.table.specs.Fill.{Fills}
 use Rattle.table.specs.declared.reply.Reply.{Reply}
 use Rattle.table.specs.declared.reply.Reply.the-variants.{Done, Value}
 use Rattle.table.specs.declared.slot.Slot.the-variants.{Held}
 use Rattle.tokens.specs.Grant.{roomSays}
+use Rattle.tokens.specs.Return.{Returns}
+use Rattle.tokens.specs.DropHost.{Drops}
 use Rattle.audit.specs.Audit.{Audits}
-use Rattle.desk.specs.Access.{Access, accessSays}
+use Rattle.access.specs.Access.{Access, accessSays}
 use Rattle.desk.specs.Grant.{Grants}
 use Rattle.desk.specs.Ask.{Asks}
 use Rattle.histories.specs.History.{Reached}
 use Rattle.histories.specs.Callback.{slotAt, Item, Holds, Entry, entriesIn, Listed, Turn, Returned, GivenBack, returnOf, Reordered}
+
+-- "a refusal leaves every lent byte as it was", of each call that is lent bytes to change
+pub record RefusalsChangeNothing (r : Reply) : Type 0 where
+  pub fill : (bytes after : List ℕ) → Fills bytes r after → after ≡ bytes
+  pub ask : (bytes out after : List ℕ) (claim : Claim) (access : Access) → Asks bytes claim access out r after → after ≡ out
+  pub grant : (bytes after : List ℕ) (claim : Claim) (access : Access) → Grants bytes claim access r after → after ≡ bytes
+  pub give-back : (bytes after : List ℕ) (host number types : ℕ) → Returns bytes host number types r after → after ≡ bytes
+  pub drop-host : (bytes after : List ℕ) (host : ℕ) → Drops bytes host r after → after ≡ bytes
 
 -- "from a freshly filled table, after any calls, no two hosts hold conflicting tokens"
 pub record NoTwoConflict (bytes : List ℕ) : Type 0 where
@@ -66,6 +77,10 @@ pub record LeastThatServes (list : List Entry) (turns : List Turn) (now : List �
   -- where the returns are one for each entry, in any order: none of them is refused, and the request is served
   pub in-any-order : (es : List Entry) → Reordered es list → map (λ (turn : Turn). turn .given) turns ≡ map returnOf es
       → ((turn : Turn) → List·Memᴰ turn turns → turn .reply ≡ Done) × Served now said
+
+-- of demand 1: every reply that is not done
+abbrev pub Demand1 : Type 0
+Demand1 = (r : Reply) → isDone (replySays r) ≡ false → RefusalsChangeNothing r
 
 -- demand 2, of every table that calls reach
 abbrev pub Demand2 : Type 0

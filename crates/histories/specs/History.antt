@@ -10,7 +10,7 @@ use Rattle.table.specs.declared.reply.Reply.the-variants.{Done}
 use Rattle.tokens.specs.Grant.{Grants as GrantsUnjudged}
 use Rattle.tokens.specs.Return.{Returns}
 use Rattle.tokens.specs.DropHost.{Drops}
-use Rattle.desk.specs.Access.{Access}
+use Rattle.access.specs.Access.{Access}
 use Rattle.desk.specs.Grant.{Grants}
 
 -- what a return is given besides the table

@@ -18,7 +18,7 @@ pub(crate) const A_PUT: bool = true;
 
 pub(crate) const A_DROP: bool = false;
 
-pub(crate) fn same(a: &[u8], b: &[u8]) -> bool {
+fn same(a: &[u8], b: &[u8]) -> bool {
     if a.len() != b.len() {
         return false;
     }
@@ -45,7 +45,7 @@ pub(crate) fn alike(name: &[u8], a: Draft, b: Draft) {
 }
 
 // Whether a part of a buffer is as it was.
-pub(crate) fn kept(name: &[u8], part: &[u8]) {
+fn kept(name: &[u8], part: &[u8]) {
     let filled = [FILL; 8192];
     text(name);
     if same(part, first(&filled, part.len())) {

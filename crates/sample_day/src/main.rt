@@ -1,18 +1,13 @@
-// The sample day and our own cases: a line for each, held against the stored output.
+// The sample day's lists and rights, and our own cases: a line for each, held against the stored output.
 mod callers;
-mod conflicts;
-mod damaged;
 mod draft;
 mod edited;
 mod edits;
-mod grants;
 mod lists;
 mod refused_edits;
-mod returns;
 mod rights_by_list;
 mod rights_by_mode;
 mod say;
-mod tables;
 
 fn main() {
     lists::paper();
@@ -39,11 +34,4 @@ fn main() {
     rights_by_mode::ours();
     edits::ours();
     refused_edits::ours();
-    grants::paper();
-    conflicts::families();
-    conflicts::hosts_and_files();
-    conflicts::ranges();
-    grants::ours();
-    returns::ours();
-    damaged::ours();
 }

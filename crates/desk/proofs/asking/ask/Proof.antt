@@ -1,7 +1,7 @@
 use mathlib.Core.Path.{sym, _∙_}
 use borrow.Author.Needs.{needs}
 use borrow.Author.Tests.{not-true, not-false}
-use Rattle.desk.specs.Access.{accessOf}
+use Rattle.access.specs.Access.{accessOf}
 use Rattle.desk.proofs.Judged.{asking, not-asking}
 use Rattle.desk.proofs.asking.ask.Statement.{statement}
 use Rattle.desk.proofs.asking.ask.Tie as tie

@@ -2,8 +2,8 @@ use mathlib.Core.Path.{refl}
 use borrow.Author.Needs.{needs}
 use Rattle.words.specs.Said.{isDone}
 use Rattle.table.specs.Reply.{replySays}
-use Rattle.desk.proofs.judging.is_permitted.Statement.{statement}
-use Rattle.desk.proofs.judging.is_permitted.Tie as tie
+use Rattle.desk.proofs.refusing.is_permitted.Statement.{statement}
+use Rattle.desk.proofs.refusing.is_permitted.Tie as tie
 
 pub is-permitted-spec : {M : Type 1} → statement M
 unfolding isDone replySays

@@ -1,8 +1,8 @@
 use borrow.Author.Needs.{needs}
 use borrow.Author.Tests.{not-true, not-false}
 use Rattle.desk.proofs.Judged.{ill-formed, misshapen, by-verdict}
-use Rattle.desk.proofs.judging.refuse.Statement.{statement}
-use Rattle.desk.proofs.judging.refuse.Tie as tie
+use Rattle.desk.proofs.refusing.refuse.Statement.{statement}
+use Rattle.desk.proofs.refusing.refuse.Tie as tie
 
 pub refuse-spec : {M : Type 1} → statement M
 refuse-spec =

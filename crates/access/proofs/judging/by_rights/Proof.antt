@@ -1,6 +1,6 @@
-use Rattle.desk.proofs.Judged.{missing, enough}
-use Rattle.desk.proofs.judging.by_rights.Statement.{statement}
-use Rattle.desk.proofs.judging.by_rights.Tie as tie
+use Rattle.access.proofs.Sufficient.{missing, enough}
+use Rattle.access.proofs.judging.by_rights.Statement.{statement}
+use Rattle.access.proofs.judging.by_rights.Tie as tie
 
 pub by-rights-spec : {M : Type 1} → statement M
 by-rights-spec =

@@ -14,7 +14,7 @@ use Rattle.rights.specs.Deciding.{decided}
 use Rattle.rights.specs.declared.guard.Guard.{Guard}
 use Rattle.table.specs.Reply.{replySays}
 use Rattle.table.specs.declared.reply.Reply.{Reply}
-use Rattle.desk.specs.Needs.{needed}
+use Rattle.access.specs.Needs.{needed}
 
 -- what a call is judged by: the caller and its further groups, the file, its guard and the list that is lent
 pub record Access : Type 0 where

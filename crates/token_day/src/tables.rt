@@ -1,10 +1,10 @@
 // A small table, the calls on it, and what is written of each: its name, then the answer.
-use crate::edited::FILL;
-use crate::edited::bytes_from;
-use crate::edited::kept;
-use crate::edited::same;
+use crate::say::FILL;
+use crate::say::bytes_from;
 use crate::say::counted;
 use crate::say::first;
+use crate::say::kept;
+use crate::say::same;
 use crate::say::text;
 use audit::audit;
 use claims::Claim;
@@ -121,6 +121,16 @@ fn ask_first(table: &[u8], claim: Claim, out: &mut [u8], n: usize) -> Reply {
     ask(table, claim, &mut out[0..n])
 }
 
+// The true count for 35, the place for 10 to 19.
+fn refused_with(number: u8, value: u64) {
+    counted(b"refused ", number as u64);
+    if number == 35 {
+        counted(b", count ", value);
+        return;
+    }
+    counted(b" at ", value);
+}
+
 // The answer, with a word before its value; hands the value on, 0 where there is none.
 pub(crate) fn told(answer: Reply, word: &[u8]) -> u64 {
     match answer {
@@ -137,15 +147,20 @@ pub(crate) fn told(answer: Reply, word: &[u8]) -> u64 {
             0
         }
         Reply::RefusedWith { number, value } => {
-            counted(b"refused ", number as u64);
-            counted(b", count ", value);
+            refused_with(number, value);
             0
         }
     }
 }
 
 // Also whether the bytes are as they were.
-fn answered(name: &[u8], answer: Reply, word: &[u8], old: Table, new: [u8; 164]) -> Table {
+pub(crate) fn answered(
+    name: &[u8],
+    answer: Reply,
+    word: &[u8],
+    old: Table,
+    new: [u8; 164],
+) -> Table {
     let before = old.bytes;
     text(name);
     text(b": ");
@@ -192,7 +207,7 @@ pub(crate) fn dropped(name: &[u8], table: Table, host: u16) -> Table {
 }
 
 // So many entries, three at most, and whether the bytes past them are as they were.
-fn entries(count: u64, out: &[u8]) {
+pub(crate) fn entries(count: u64, out: &[u8]) {
     if 3 < count {
         return;
     }

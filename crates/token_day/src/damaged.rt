@@ -1,5 +1,5 @@
 // What is no table: lengths that fill refuses, and tables damaged by hand.
-use crate::edited::FILL;
+use crate::say::FILL;
 use crate::say::first;
 use crate::say::text;
 use crate::tables::Table;

@@ -6,7 +6,7 @@ use rights::right::READ;
 use rights::right::WRITE;
 ghost use mathlib.Core.Path.{_≡_};
 ghost use Rattle.words.specs.Test.{if_then_else_};
-ghost use Rattle.desk.specs.Needs.{Needs};
+ghost use Rattle.access.specs.Needs.{Needs};
 
 // The first type of each family; status write; the second type of the others.
 const NEED_READ: u16 = 0b0101_0101;

@@ -2,9 +2,9 @@ use mathlib.Core.Path.{refl}
 use borrow.Author.Needs.{needs}
 use Rattle.rights.specs.Deciding.{answerSays}
 use Rattle.table.specs.Reply.{replySays}
-use Rattle.desk.specs.Access.{permits}
-use Rattle.desk.proofs.judging.by_answer.Statement.{statement}
-use Rattle.desk.proofs.judging.by_answer.Tie as tie
+use Rattle.access.specs.Access.{permits}
+use Rattle.access.proofs.judging.by_answer.Statement.{statement}
+use Rattle.access.proofs.judging.by_answer.Tie as tie
 
 pub by-answer-spec : {M : Type 1} → statement M
 unfolding permits answerSays replySays

@@ -1,8 +1,8 @@
 use mathlib.Core.Path.{refl, _∙_}
 use borrow.Author.Needs.{needs}
-use Rattle.desk.specs.Access.{accessSays}
-use Rattle.desk.proofs.judging.judge.Statement.{statement}
-use Rattle.desk.proofs.judging.judge.Tie as tie
+use Rattle.access.specs.Access.{accessSays}
+use Rattle.access.proofs.judging.judge.Statement.{statement}
+use Rattle.access.proofs.judging.judge.Tie as tie
 
 pub judge-spec : {M : Type 1} → statement M
 unfolding accessSays

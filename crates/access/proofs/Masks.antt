@@ -10,7 +10,7 @@ use Rattle.words.specs.Bit.{bit}
 use Rattle.rights.specs.Right.{read, write, control, insert, delete}
 use Rattle.claims.specs.Types.{setBelow, someBelow}
 use Rattle.claims.proofs.Masks.{agree, mask-low, some-low}
-use Rattle.desk.specs.Needs.{needs, need, needed}
+use Rattle.access.specs.Needs.{needs, need, needed}
 
 -- as the code has it
 unfoldable masked : Bool → ℕ → ℕ

@@ -1,7 +1,7 @@
 use borrow.Author.Needs.{needs}
-use Rattle.desk.proofs.Masks.{by-masks}
-use Rattle.desk.proofs.needs.needed_rights.Statement.{statement}
-use Rattle.desk.proofs.needs.needed_rights.Tie as tie
+use Rattle.access.proofs.Masks.{by-masks}
+use Rattle.access.proofs.needs.needed_rights.Statement.{statement}
+use Rattle.access.proofs.needs.needed_rights.Tie as tie
 
 pub needed-rights-spec : {M : Type 1} → statement M
 needed-rights-spec =
