@@ -20,9 +20,10 @@ use Rattle.table.proofs.Calls.{says-ill, says-well}
 use Rattle.tokens.specs.Grant.{requestSays, serveSays, grantSays as plainGrantSays, Grants as GrantsPlain}
 use Rattle.tokens.specs.Ask.{listSays, askSays as plainAskSays, Asks as AsksPlain}
 use Rattle.access.specs.Access.{Access, accessSays}
-use Rattle.desk.specs.Order.{inOrder, Refuses}
+use Rattle.desk.specs.Order.{inOrder}
 use Rattle.desk.specs.Grant.{grantSays, Grants}
 use Rattle.desk.specs.Ask.{askSays, Asks}
+use Rattle.desk.specs.Verdict.{Refuses}
 
 -- whatever comes first, a verdict that is done lets the call's own follow, and one that is not stands
 follows : (first verdict own : Said) → isDone verdict ≡ true → andThen first (andThen verdict own) ≡ andThen first own

@@ -1,4 +1,5 @@
 pub mod Order
 pub mod Grant
 pub mod Ask
+pub mod Verdict
 pub mod Day

@@ -9,7 +9,7 @@ use table::well_formed;
 ghost use mathlib.Core.Path.{_≡_};
 ghost use Rattle.words.specs.Said.{isDone};
 ghost use Rattle.table.specs.Reply.{replySays};
-ghost use Rattle.desk.specs.Order.{Refuses};
+ghost use Rattle.desk.specs.Verdict.{Refuses};
 
 pub(crate) fn is_permitted(verdict: Reply) -> bool
     ensures { λ r. ⌜ r ≡ isDone (replySays verdict) ⌝ }

@@ -130,6 +130,6 @@ ours =
     ∷ gives 50 0 0 (byMode theDirectory 18 [] (caller realmR 8 0))
     ∷ []
 
--- with the lists' own lines, the whole day so far
+-- with the lists' own lines
 unfoldable pub day : List Line
 day = listDay ++ (starred ++ (others ++ ours))

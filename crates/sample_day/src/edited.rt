@@ -5,6 +5,7 @@ use crate::say::first;
 use crate::say::number;
 use crate::say::refused;
 use crate::say::text;
+use check::same;
 use edit::Edited;
 use edit::Entry;
 use edit::drop_entry;
@@ -17,20 +18,6 @@ pub(crate) const FILL: u8 = 170;
 pub(crate) const A_PUT: bool = true;
 
 pub(crate) const A_DROP: bool = false;
-
-fn same(a: &[u8], b: &[u8]) -> bool {
-    if a.len() != b.len() {
-        return false;
-    }
-    let mut at: usize = 0;
-    while at < a.len() {
-        if a[at] != b[at] {
-            return false;
-        }
-        at += 1;
-    }
-    true
-}
 
 // Whether two lists are the same, byte by byte.
 pub(crate) fn alike(name: &[u8], a: Draft, b: Draft) {

@@ -1,4 +1,5 @@
-// What is written of a case, and buffers compared.
+// What is written of a case.
+use check::same;
 use libc::STDOUT_FILENO;
 
 // Every byte of a buffer beforehand.
@@ -19,20 +20,6 @@ pub(crate) fn first<'a>(bytes: &'a [u8], n: usize) -> &'a [u8] {
         return bytes;
     }
     &bytes[0..n]
-}
-
-pub(crate) fn same(a: &[u8], b: &[u8]) -> bool {
-    if a.len() != b.len() {
-        return false;
-    }
-    let mut at: usize = 0;
-    while at < a.len() {
-        if a[at] != b[at] {
-            return false;
-        }
-        at += 1;
-    }
-    true
 }
 
 // Whether a part of a list buffer is as it was.
