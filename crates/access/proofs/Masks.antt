@@ -16,7 +16,7 @@ use Rattle.access.specs.Needs.{needs, need, needed}
 unfoldable masked : Bool → ℕ → ℕ
 masked dir types =
     bitOr (bitOr (if not (eqb (bitAnd types 85) 0) then 1 else 0) (if not (eqb (bitAnd types 8) 0) then 8 else 0))
-    (if not (eqb (bitAnd types 162) 0) then (if dir then 48 else 2) else 0)
+    (if not (eqb (bitAnd types 162) 0) then (if dir then bitOr insert delete else write) else 0)
 
 masked-low : (dir : Bool) (types : ℕ) → masked dir types ≡ masked dir (types % 256)
 unfolding masked
@@ -33,6 +33,6 @@ none-wrong false = refl
 
 pub by-masks : (dir : Bool) (types : ℕ)
     → bitOr (bitOr (if not (eqb (bitAnd types 85) 0) then 1 else 0) (if not (eqb (bitAnd types 8) 0) then 8 else 0))
-    (if not (eqb (bitAnd types 162) 0) then (if dir then 48 else 2) else 0) ≡ needed dir types
+    (if not (eqb (bitAnd types 162) 0) then (if dir then bitOr insert delete else write) else 0) ≡ needed dir types
 unfolding masked
 by-masks dir = agree (masked dir) (needed dir) (none-wrong dir) (masked-low dir) (needed-low dir)

@@ -11,9 +11,17 @@ use Rattle.words.specs.Bit.{bit}
 use Rattle.rights.specs.Right.{read, write, control, insert, delete}
 use Rattle.claims.specs.Types.{setBelow, someType}
 
--- data read, data write; status read, status write; lock read, lock write; open shared, open exclusive
+-- the paper's column, type by type
 unfoldable pub needs : List ℕ
-needs = read ∷ write ∷ read ∷ control ∷ read ∷ write ∷ read ∷ write ∷ []
+needs =
+    -- data read, data write
+    read ∷ write
+    -- status read, status write
+    ∷ read ∷ control
+    -- lock read, lock write
+    ∷ read ∷ write
+    -- open shared, open exclusive
+    ∷ read ∷ write ∷ []
 
 -- on a directory, what needs write needs insert and delete instead
 unfoldable pub need : Bool → ℕ → ℕ
@@ -21,7 +29,7 @@ need dir i =
     let right = getD needs i 0 in
     if dir && eqb right write then bitOr insert delete else right
 
--- there are six rights
+-- of the six rights those that some of the types need
 unfoldable pub needed : Bool → ℕ → ℕ
 needed dir types = setBelow 6 (λ k. someType (λ i. bit i types && bit k (need dir i)))
 

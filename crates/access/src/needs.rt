@@ -5,7 +5,9 @@ use rights::right::INSERT;
 use rights::right::READ;
 use rights::right::WRITE;
 ghost use mathlib.Core.Path.{_≡_};
+ghost use lib.Bits.{bitOr};
 ghost use Rattle.words.specs.Test.{if_then_else_};
+ghost use Rattle.rights.specs.Right.{write, insert, delete};
 ghost use Rattle.access.specs.Needs.{Needs};
 
 // The first type of each family; status write; the second type of the others.
@@ -23,7 +25,7 @@ fn right_if(needed: bool, right: u8) -> u8
 
 // On a directory, what needs write needs insert and delete instead.
 fn write_right(dir: bool) -> u8
-    ensures { λ r. ⌜ r ≡ (if dir then 48 else 2) ⌝ }
+    ensures { λ r. ⌜ r ≡ (if dir then bitOr insert delete else write) ⌝ }
 {
     if dir { INSERT | DELETE } else { WRITE }
 }
