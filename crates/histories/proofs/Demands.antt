@@ -8,7 +8,7 @@ use native.Mathlib.Decide.{ℕ-discrete}
 use native.Mathlib.Omega.{arith}
 use borrow.Author.Tests.{le-ltb}
 use lib.Dec.{ltb}
-use lib.ListN.{length, getD, drop}
+use lib.ListN.{length, drop}
 use Rattle.words.specs.Test.{if_then_else_}
 use Rattle.words.specs.Said.{Said, done, refused, isDone, andThen, left}
 use Rattle.words.proofs.Tests.{those-few}
@@ -40,6 +40,7 @@ use Rattle.desk.specs.Grant.{grantSays}
 use Rattle.desk.specs.Ask.{askSays, Asks}
 use Rattle.histories.specs.Callback.{slotAt, Item, entriesIn, Listed, Turn, Returned, GivenBack}
 use Rattle.histories.specs.Demands.{NoTwoConflict, Again, Served, StillHeld, LeastThatServes, Demand1, Demand2, Demand3, AskIsDone}
+use Rattle.histories.proofs.Answers.{same-value}
 use Rattle.histories.proofs.Soundness.{Sound}
 use Rattle.histories.proofs.Spelling.{says-there, left-there}
 use Rattle.histories.proofs.Giving.{says, give, give-sound}
@@ -112,12 +113,8 @@ run-returns (turn ∷ turns) t s now r =
 
 -- what an ask that is done tells: the request is well formed, and how many tokens are in its way
 module _ (claim : Claim) (out : List ℕ) (t : Table) (verdict : Said) (n : ℕ) where
-  first-value : Said → ℕ
-  first-value (done values) = getD values 0 0
-  first-value (refused number values) = 0
-
   asked : done (n ∷ []) ≡ inOrder claim verdict (listSays claim out) t → (malformed claim (limit t) ≡ false) × (n ≡ length (inTheWay claim t))
-  unfolding inOrder andThen requestSays listSays first-value
+  unfolding inOrder andThen requestSays listSays
   asked e = go (malformed claim (limit t)) refl verdict (ltb (length out) (length (listFor claim t))) e
     where
       go : (b : Bool) → malformed claim (limit t) ≡ b → (v : Said) (c : Bool)
@@ -126,7 +123,7 @@ module _ (claim : Claim) (out : List ℕ) (t : Table) (verdict : Said) (n : ℕ)
       go true p v c z = absurd (not-done 31 [] (n ∷ []) (sym z))
       go false p (refused number w) c z = absurd (not-done number w (n ∷ []) (sym z))
       go false p (done w) true z = absurd (not-done 35 (length (inTheWay claim t) ∷ []) (n ∷ []) (sym z))
-      go false p (done w) false z = (p, ap first-value z)
+      go false p (done w) false z = (p, same-value n (length (inTheWay claim t)) z)
 
 -- a permitted, well-formed request is answered by room and conflicts alone
 served-as : (claim : Claim) (access : Access) (t : Table) → malformed claim (limit t) ≡ false → accessSays access (claim .types) ≡ done []

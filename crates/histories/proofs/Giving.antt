@@ -24,6 +24,7 @@ use Rattle.tokens.specs.Return.{isOf, typesIn, keeps, loses, placeIn, tokenIn, 
 use Rattle.tokens.proofs.Kept.{return-order}
 use Rattle.histories.specs.History.{Return}
 use Rattle.histories.specs.Callback.{slotAt}
+use Rattle.histories.proofs.Answers.{same-values}
 use Rattle.histories.proofs.Places.{place-in, there, at-set}
 use Rattle.histories.proofs.Soundness.{Sound, Shrunk, shrunk-apart}
 use Rattle.histories.proofs.Spelling.{next}
@@ -79,18 +80,13 @@ loses-kept types (Held number held) = go (eqb (without (held .types) types) 0)
     go true = tt
     go false = record { number-same = refl; same = refl; fewer = λ i e. in-without (held .types) types i e .0 }
 
-valuesOf : Said → List ℕ
-valuesOf (done values) = values
-valuesOf (refused number values) = values
-
 -- a return that is done has found the token, and answers without a value
 ladder : (a b c : Bool) (values : List ℕ) → (if a then refused 31 [] else if not b then refused 36 [] else if c then refused 37 [] else done []) ≡ done values
     → (b ≡ true) × ([] ≡ values)
-unfolding valuesOf
 ladder true b c values z = absurd (not-done 31 [] values z)
 ladder false false c values z = absurd (not-done 36 [] values z)
 ladder false true true values z = absurd (not-done 37 [] values z)
-ladder false true false values z = (refl, ap valuesOf z)
+ladder false true false values z = (refl, same-values [] values z)
 
 module _ (given : Return) (t : Table) where
   abbrev pub says : Said

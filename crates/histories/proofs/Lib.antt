@@ -1,11 +1,12 @@
-mod Places
-mod Soundness
-mod Spelling
-mod Giving
-mod Turns
-mod Entries
-mod Serving
-mod Reorders
-mod Planning
-mod Reaching
+pub mod Answers
+pub mod Places
+pub mod Soundness
+pub mod Spelling
+pub mod Giving
+pub mod Turns
+pub mod Entries
+pub mod Serving
+pub mod Reorders
+pub mod Planning
+pub mod Reaching
 pub mod Demands

@@ -8,9 +8,10 @@ use native.Mathlib.Omega.{arith}
 use borrow.Author.Tests.{eqb-false, ne-eqb, not-true}
 use lib.Dec.{eqb}
 use Rattle.words.specs.Test.{if_then_else_, anyOf, placeOf}
-use Rattle.words.specs.Said.{Said, done, refused}
+use Rattle.words.specs.Said.{done, refused}
 use Rattle.words.specs.Bit.{bit}
 use Rattle.words.proofs.Tests.{differ, fails}
+use Rattle.words.proofs.Left.{not-done}
 use Rattle.claims.specs.Rule.{conflict}
 use Rattle.claims.specs.Claim.{withTypes}
 use Rattle.claims.specs.declared.claim.Claim.{Claim}
@@ -21,32 +22,28 @@ use Rattle.table.specs.declared.slot.Slot.{Slot}
 use Rattle.table.specs.declared.slot.Slot.the-variants.{Free, Held}
 use Rattle.tokens.specs.Grant.{isFree, isInTheWay, lastNumber, roomSays, serveSays}
 use Rattle.histories.specs.Callback.{slotAt, Item, Holds, Entry, Listed, Turn, GivenBack}
+use Rattle.histories.proofs.Answers.{same-refusal}
 use Rattle.histories.proofs.Places.{any-at, there}
 use Rattle.histories.proofs.Soundness.{Sound, free-harmless}
 use Rattle.histories.proofs.Giving.{within}
 use Rattle.histories.proofs.Turns.{giveAll, Answered, KeptTable, all-kept, was, one-token, given-gone, lost-given}
 use Rattle.histories.proofs.Entries.{entryOf, entries, source, entry-in}
 
--- the number of a refusal
-numberOf : Said → ℕ
-numberOf (done values) = 0
-numberOf (refused number values) = number
-
-pub room-not-conflict : (t : Table) → roomSays t ≢ refused 32 []
-unfolding roomSays numberOf
-room-not-conflict t e = go (anyOf isFree (t .slots)) (eqb (t .next) lastNumber) (ap numberOf e)
+room-not-conflict : (t : Table) → roomSays t ≢ refused 32 []
+unfolding roomSays
+room-not-conflict t e = go (anyOf isFree (t .slots)) (eqb (t .next) lastNumber) e
   where
-    go : (b c : Bool) → numberOf (if not b then refused 33 [] else if c then refused 34 [] else done (t .next ∷ [])) ≡ 32 → ⊥
-    go true true z = omega arith
-    go true false z = omega arith
-    go false c z = omega arith
+    go : (b c : Bool) → (if not b then refused 33 [] else if c then refused 34 [] else done (t .next ∷ [])) ≡ refused 32 [] → ⊥
+    go true true z = let n = same-refusal 34 32 [] [] z in omega arith
+    go true false z = not-done 32 [] (t .next ∷ []) (sym z)
+    go false c z = let n = same-refusal 33 32 [] [] z in omega arith
 
 module _ (claim : Claim) (t : Table) where
   pub conflicts : anyOf (isInTheWay claim) (t .slots) ≡ true → serveSays claim t ≡ refused 32 []
   unfolding serveSays
   conflicts e = rw e refl
 
-  pub only-room : anyOf (isInTheWay claim) (t .slots) ≡ false → serveSays claim t ≡ roomSays t
+  only-room : anyOf (isInTheWay claim) (t .slots) ≡ false → serveSays claim t ≡ roomSays t
   unfolding serveSays
   only-room e = rw e refl
 

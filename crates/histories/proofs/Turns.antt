@@ -63,7 +63,7 @@ unfolding giveAll
 all-limit [] t = refl
 all-limit (turn ∷ turns) t = all-limit turns (give (turn .given) t) ∙ give-limit (turn .given) t
 
-pub not-held : {A : Type 0} {number : ℕ} {claim : Claim} → Free ≡ Held number claim → A
+not-held : {A : Type 0} {number : ℕ} {claim : Claim} → Free ≡ Held number claim → A
 not-held e = absurd (let z : _≡_ {A = ℕ} 0 1 = cc in omega arith)
 
 pub same-number : {number other : ℕ} {a b : Claim} → Held number a ≡ Held other b → number ≡ other
