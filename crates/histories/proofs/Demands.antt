@@ -30,6 +30,7 @@ use Rattle.table.proofs.Means.{Ordered, table-bytes, bytes-formed, order-at, be
 use Rattle.tokens.specs.Grant.{isInTheWay, requestSays, serveSays, roomSays}
 use Rattle.tokens.specs.Ask.{inTheWay, listFor, listSays}
 use Rattle.tokens.specs.Return.{returnSays, returned}
+use Rattle.tokens.specs.DropHost.{dropSays}
 use Rattle.tokens.proofs.Listed.{list-length}
 use Rattle.tokens.proofs.Kept.{return-order}
 use Rattle.audit.specs.Audit.{sound}
@@ -39,8 +40,9 @@ use Rattle.desk.specs.Order.{inOrder}
 use Rattle.desk.specs.Grant.{grantSays}
 use Rattle.desk.specs.Ask.{askSays, Asks}
 use Rattle.histories.specs.Callback.{slotAt, Item, entriesIn, Listed, Turn, Returned, GivenBack}
-use Rattle.histories.specs.Demands.{NoTwoConflict, Again, Served, StillHeld, LeastThatServes, Demand1, Demand2, Demand3, AskIsDone}
+use Rattle.histories.specs.Demands.{AnswerOrRefusal, RefusalsChangeNothing, NoTwoConflict, Again, Served, StillHeld, LeastThatServes, Demand1, Demand2, Demand3, AskIsDone}
 use Rattle.histories.proofs.Answers.{same-value}
+use Rattle.histories.proofs.Numbers.{of-bytes, in-order, fill-answers, list-answers, serve-answers, return-answers, drop-answers}
 use Rattle.histories.proofs.Soundness.{Sound}
 use Rattle.histories.proofs.Spelling.{says-there, left-there}
 use Rattle.histories.proofs.Giving.{says, give, give-sound}
@@ -58,14 +60,27 @@ module _ (r : Reply) (refusal : isDone (replySays r) ≡ false) where
   unfolding leftOf
   left-unchanged says changed bytes after p e = unchanged (bytesOf (changed (tableOf bytes))) bytes after p e
 
-pub demand1 : Demand1
-demand1 r refusal = record {
-  fill = λ bytes after f. unchanged r refusal _ bytes after (f .answer) (f .table-after);
-  ask = λ bytes out after claim access a. unchanged r refusal _ out after (a .answer) (a .out-after);
-  grant = λ bytes after claim access g. left-unchanged r refusal _ _ bytes after (g .answer) (g .table-after);
-  give-back = λ bytes after host number types g. left-unchanged r refusal _ _ bytes after (g .answer) (g .table-after);
-  drop-host = λ bytes after host d. left-unchanged r refusal _ _ bytes after (d .answer) (d .table-after);
+  changes-nothing : RefusalsChangeNothing r
+  changes-nothing = record {
+    fill = λ bytes after f. unchanged _ bytes after (f .answer) (f .table-after);
+    ask = λ bytes out after claim access a. unchanged _ out after (a .answer) (a .out-after);
+    grant = λ bytes after claim access g. left-unchanged _ _ bytes after (g .answer) (g .table-after);
+    give-back = λ bytes after host number types g. left-unchanged _ _ bytes after (g .answer) (g .table-after);
+    drop-host = λ bytes after host d. left-unchanged _ _ bytes after (d .answer) (d .table-after);
+  }
+
+answers : (r : Reply) → AnswerOrRefusal r
+unfolding grantSays askSays
+answers r = record {
+  fill = λ bytes after f. rw (f .answer) (fill-answers bytes);
+  ask = λ bytes out after claim access a. rw (a .answer) (of-bytes (askSays claim access out) bytes (λ t. in-order claim access (listSays claim out) t (list-answers claim out t)));
+  grant = λ bytes after claim access g. rw (g .answer) (of-bytes (grantSays claim access) bytes (λ t. in-order claim access (serveSays claim) t (serve-answers claim t)));
+  give-back = λ bytes after host number types g. rw (g .answer) (of-bytes (returnSays host number types) bytes (return-answers host number types));
+  drop-host = λ bytes after host d. rw (d .answer) (of-bytes (dropSays host) bytes (drop-answers host));
 }
+
+pub demand1 : Demand1
+demand1 r = (answers r, changes-nothing r)
 
 -- of the bytes of a sound table
 module _ (t : Table) (s : Sound t) where

@@ -1,10 +1,12 @@
 -- The customer's demands, of every table that calls reach.
 use mathlib.Core.Path.{_≡_}
-use mathlib.Core.Bool.{Bool, true, false}
-use mathlib.Core.List.{List, [], map, List·Memᴰ}
+use mathlib.Core.Bool.{Bool, true, false, _||_, _&&_}
+use mathlib.Core.List.{List, [], _∷_, map, List·Memᴰ}
 use mathlib.Core.Logic.{_≢_, _↔_}
 use Prim.Native.Nat.{ℕ, _*_, _≤_, _<_}
+use lib.Dec.{eqb, leb}
 use lib.ListN.{length}
+use Rattle.words.specs.Test.{anyOf}
 use Rattle.words.specs.Said.{Said, done, refused, isDone}
 use Rattle.claims.specs.Claim.{malformed}
 use Rattle.claims.specs.Rule.{Conflicting}
@@ -26,6 +28,24 @@ use Rattle.desk.specs.Grant.{Grants}
 use Rattle.desk.specs.Ask.{Asks}
 use Rattle.histories.specs.History.{Reached}
 use Rattle.histories.specs.Callback.{slotAt, Item, Holds, Entry, entriesIn, Listed, Turn, Returned, GivenBack, returnOf, Reordered}
+
+-- 01's table of refusals for calls on a table: without a value; with one, the place for 10 to 19 or the true count for 35
+unfoldable pub isRefusal : ℕ → List ℕ → Bool
+isRefusal number [] = anyOf (eqb number) (30 ∷ 31 ∷ 23 ∷ 22 ∷ 24 ∷ 32 ∷ 33 ∷ 34 ∷ 36 ∷ 37 ∷ [])
+isRefusal number (value ∷ []) = (leb 10 number && leb number 19) || eqb number 35
+isRefusal number (value ∷ other ∷ more) = false
+
+unfoldable pub isAnswer : Said → Bool
+isAnswer (done values) = true
+isAnswer (refused number values) = isRefusal number values
+
+-- "every call ends with an answer or a numbered refusal of 01's table"
+pub record AnswerOrRefusal (r : Reply) : Type 0 where
+  pub fill : (bytes after : List ℕ) → Fills bytes r after → isAnswer (replySays r) ≡ true
+  pub ask : (bytes out after : List ℕ) (claim : Claim) (access : Access) → Asks bytes claim access out r after → isAnswer (replySays r) ≡ true
+  pub grant : (bytes after : List ℕ) (claim : Claim) (access : Access) → Grants bytes claim access r after → isAnswer (replySays r) ≡ true
+  pub give-back : (bytes after : List ℕ) (host number types : ℕ) → Returns bytes host number types r after → isAnswer (replySays r) ≡ true
+  pub drop-host : (bytes after : List ℕ) (host : ℕ) → Drops bytes host r after → isAnswer (replySays r) ≡ true
 
 -- "a refusal leaves every lent byte as it was", of each call that is lent bytes to change
 pub record RefusalsChangeNothing (r : Reply) : Type 0 where
@@ -78,9 +98,9 @@ pub record LeastThatServes (list : List Entry) (turns : List Turn) (now : List �
   pub in-any-order : (es : List Entry) → Reordered es list → map (λ (turn : Turn). turn .given) turns ≡ map returnOf es
       → ((turn : Turn) → List·Memᴰ turn turns → turn .reply ≡ Done) × Served now said
 
--- of demand 1: every reply that is not done
+-- demand 1, of every reply and of every reply that is not done
 abbrev pub Demand1 : Type 0
-Demand1 = (r : Reply) → isDone (replySays r) ≡ false → RefusalsChangeNothing r
+Demand1 = (r : Reply) → AnswerOrRefusal r × (isDone (replySays r) ≡ false → RefusalsChangeNothing r)
 
 -- demand 2, of every table that calls reach
 abbrev pub Demand2 : Type 0
