@@ -20,7 +20,7 @@ use Rattle.table.proofs.Calls.{says-ill, says-well}
 use Rattle.tokens.specs.Grant.{requestSays, serveSays, grantSays as plainGrantSays, Grants as GrantsPlain}
 use Rattle.tokens.specs.Ask.{listSays, askSays as plainAskSays, Asks as AsksPlain}
 use Rattle.access.specs.Access.{Access, accessSays}
-use Rattle.desk.specs.Order.{inOrder}
+use Rattle.desk.specs.Order.{judgedSays}
 use Rattle.desk.specs.Grant.{grantSays, Grants}
 use Rattle.desk.specs.Ask.{askSays, Asks}
 use Rattle.desk.specs.Verdict.{Refuses}
@@ -43,15 +43,15 @@ refuses (refused number values) verdict e = refl
 
 module _ (bytes : List ℕ) (claim : Claim) where
   module _ (verdict : Said) (own : Table → Said) where
-    permitted-says : isDone verdict ≡ true → saysOf (inOrder claim verdict own) bytes ≡ saysOf (λ t. andThen (requestSays claim t) (own t)) bytes
-    unfolding saysOf inOrder
+    permitted-says : isDone verdict ≡ true → saysOf (judgedSays claim verdict own) bytes ≡ saysOf (λ t. andThen (requestSays claim t) (own t)) bytes
+    unfolding saysOf judgedSays
     permitted-says e = rw (follows (requestSays claim (tableOf bytes)) verdict (own (tableOf bytes)) e) refl
 
-    refused-says : isDone verdict ≡ false → saysOf (inOrder claim verdict own) bytes ≡ saysOf (λ t. andThen (requestSays claim t) verdict) bytes
-    unfolding saysOf inOrder
+    refused-says : isDone verdict ≡ false → saysOf (judgedSays claim verdict own) bytes ≡ saysOf (λ t. andThen (requestSays claim t) verdict) bytes
+    unfolding saysOf judgedSays
     refused-says e = rw (stands (requestSays claim (tableOf bytes)) verdict (own (tableOf bytes)) e) refl
 
-    is-refused : isDone verdict ≡ false → isDone (saysOf (inOrder claim verdict own) bytes) ≡ false
+    is-refused : isDone verdict ≡ false → isDone (saysOf (judgedSays claim verdict own) bytes) ≡ false
     unfolding saysOf isDone
     is-refused e = rw (refused-says e) (go (wellFormed bytes))
       where
@@ -100,7 +100,7 @@ module _ (bytes : List ℕ) (claim : Claim) where
       wrong : isDone (accessSays access (claim .types)) ≡ false
       wrong = rw (← judge) denied
 
-      says : (own : Table → Said) → replySays r ≡ saysOf (inOrder claim (accessSays access (claim .types)) own) bytes
+      says : (own : Table → Said) → replySays r ≡ saysOf (judgedSays claim (accessSays access (claim .types)) own) bytes
       says own = refusal .answer ∙ rw judge (sym (refused-says (accessSays access (claim .types)) own wrong))
 
       pub not-granting : Grants bytes claim access r bytes

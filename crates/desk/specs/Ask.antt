@@ -11,10 +11,10 @@ use Rattle.table.specs.Call.{saysOf}
 use Rattle.table.specs.declared.reply.Reply.{Reply}
 use Rattle.tokens.specs.Ask.{listFor, listSays}
 use Rattle.access.specs.Access.{Access, accessSays}
-use Rattle.desk.specs.Order.{inOrder}
+use Rattle.desk.specs.Order.{judgedSays}
 
 unfoldable pub askSays : Claim → Access → List ℕ → Table → Said
-askSays claim access out = inOrder claim (accessSays access (claim .types)) (listSays claim out)
+askSays claim access out = judgedSays claim (accessSays access (claim .types)) (listSays claim out)
 
 -- asking what is in the way
 pub record Asks (bytes : List ℕ) (claim : Claim) (access : Access) (out : List ℕ) (r : Reply) (after : List ℕ) : Type 0 where

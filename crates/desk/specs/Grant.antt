@@ -10,10 +10,10 @@ use Rattle.table.specs.Call.{saysOf, leftOf}
 use Rattle.table.specs.declared.reply.Reply.{Reply}
 use Rattle.tokens.specs.Grant.{serveSays, granted}
 use Rattle.access.specs.Access.{Access, accessSays}
-use Rattle.desk.specs.Order.{inOrder}
+use Rattle.desk.specs.Order.{judgedSays}
 
 unfoldable pub grantSays : Claim → Access → Table → Said
-grantSays claim access = inOrder claim (accessSays access (claim .types)) (serveSays claim)
+grantSays claim access = judgedSays claim (accessSays access (claim .types)) (serveSays claim)
 
 -- granting a token
 pub record Grants (bytes : List ℕ) (claim : Claim) (access : Access) (r : Reply) (after : List ℕ) : Type 0 where

@@ -5,5 +5,5 @@ use Rattle.table.specs.Table.{Table}
 use Rattle.tokens.specs.Grant.{requestSays}
 
 -- 31, the verdict of access, the call's own; 30 is before them all (`saysOf`)
-unfoldable pub inOrder : Claim → Said → (Table → Said) → Table → Said
-inOrder claim verdict own t = andThen (requestSays claim t) (andThen verdict (own t))
+unfoldable pub judgedSays : Claim → Said → (Table → Said) → Table → Said
+judgedSays claim verdict own t = andThen (requestSays claim t) (andThen verdict (own t))

@@ -36,13 +36,13 @@ use Rattle.tokens.proofs.Kept.{return-order}
 use Rattle.audit.specs.Audit.{sound}
 use Rattle.audit.proofs.Exactly.{tokens-apart, apart-pairs}
 use Rattle.access.specs.Access.{Access, accessSays}
-use Rattle.desk.specs.Order.{inOrder}
+use Rattle.desk.specs.Order.{judgedSays}
 use Rattle.desk.specs.Grant.{grantSays}
 use Rattle.desk.specs.Ask.{askSays, Asks}
 use Rattle.histories.specs.Callback.{slotAt, Item, entriesIn, Listed, Turn, Returned, GivenBack}
 use Rattle.histories.specs.Demands.{AnswerOrRefusal, RefusalsChangeNothing, NoTwoConflict, Again, Served, StillHeld, LeastThatServes, Demand1, Demand2, Demand3, AskIsDone}
 use Rattle.histories.proofs.Answers.{same-value}
-use Rattle.histories.proofs.Numbers.{of-bytes, in-order, fill-answers, list-answers, serve-answers, return-answers, drop-answers}
+use Rattle.histories.proofs.Numbers.{of-bytes, judged-answers, fill-answers, list-answers, serve-answers, return-answers, drop-answers}
 use Rattle.histories.proofs.Soundness.{Sound}
 use Rattle.histories.proofs.Spelling.{says-there, left-there}
 use Rattle.histories.proofs.Giving.{says, give, give-sound}
@@ -73,8 +73,8 @@ answers : (r : Reply) → AnswerOrRefusal r
 unfolding grantSays askSays
 answers r = record {
   fill = λ bytes after f. rw (f .answer) (fill-answers bytes);
-  ask = λ bytes out after claim access a. rw (a .answer) (of-bytes (askSays claim access out) bytes (λ t. in-order claim access (listSays claim out) t (list-answers claim out t)));
-  grant = λ bytes after claim access g. rw (g .answer) (of-bytes (grantSays claim access) bytes (λ t. in-order claim access (serveSays claim) t (serve-answers claim t)));
+  ask = λ bytes out after claim access a. rw (a .answer) (of-bytes (askSays claim access out) bytes (λ t. judged-answers claim access (listSays claim out) t (list-answers claim out t)));
+  grant = λ bytes after claim access g. rw (g .answer) (of-bytes (grantSays claim access) bytes (λ t. judged-answers claim access (serveSays claim) t (serve-answers claim t)));
   give-back = λ bytes after host number types g. rw (g .answer) (of-bytes (returnSays host number types) bytes (return-answers host number types));
   drop-host = λ bytes after host d. rw (d .answer) (of-bytes (dropSays host) bytes (drop-answers host));
 }
@@ -128,8 +128,8 @@ run-returns (turn ∷ turns) t s now r =
 
 -- what an ask that is done tells: the request is well formed, and how many tokens are in its way
 module _ (claim : Claim) (out : List ℕ) (t : Table) (verdict : Said) (n : ℕ) where
-  asked : done (n ∷ []) ≡ inOrder claim verdict (listSays claim out) t → (malformed claim (limit t) ≡ false) × (n ≡ length (inTheWay claim t))
-  unfolding inOrder andThen requestSays listSays
+  asked : done (n ∷ []) ≡ judgedSays claim verdict (listSays claim out) t → (malformed claim (limit t) ≡ false) × (n ≡ length (inTheWay claim t))
+  unfolding judgedSays andThen requestSays listSays
   asked e = go (malformed claim (limit t)) refl verdict (ltb (length out) (length (listFor claim t))) e
     where
       go : (b : Bool) → malformed claim (limit t) ≡ b → (v : Said) (c : Bool)
@@ -143,7 +143,7 @@ module _ (claim : Claim) (out : List ℕ) (t : Table) (verdict : Said) (n : ℕ)
 -- a permitted, well-formed request is answered by room and conflicts alone
 served-as : (claim : Claim) (access : Access) (t : Table) → malformed claim (limit t) ≡ false → accessSays access (claim .types) ≡ done []
     → grantSays claim access t ≡ serveSays claim t
-unfolding grantSays inOrder requestSays andThen
+unfolding grantSays judgedSays requestSays andThen
 served-as claim access t shaped permitted = rw (shaped, permitted) refl
 
 module _ (t : Table) (s : Sound t) (claim : Claim) (shaped : malformed claim (limit t) ≡ false) where
@@ -213,7 +213,7 @@ module _ (t : Table) (s : Sound t) (bytes : List ℕ) (spelled : bytes ≡ bytes
   -- thirteen bytes for each slot are enough
   enough : malformed claim (limit t) ≡ false → accessSays access (claim .types) ≡ done [] → 13 * 1024 ≤ length out
       → (r : Reply) (after : List ℕ) → Asks bytes claim access out r after → (count : ℕ) × (r ≡ Value count)
-  unfolding askSays inOrder requestSays andThen listSays replySays
+  unfolding askSays judgedSays requestSays andThen listSays replySays
   enough shaped permitted room r after a =
       let o = s .order in
       let few : length (listFor claim t) ≤ length out = omega (arith, list-length claim t, few-in-the-way claim t, o .few) in

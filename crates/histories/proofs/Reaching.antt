@@ -29,7 +29,7 @@ use Rattle.tokens.specs.DropHost.{isHosts, freed, dropSays, dropped}
 use Rattle.tokens.proofs.Kept.{passed, grant-order, return-order, drop-order}
 use Rattle.audit.proofs.Exactly.{from-free}
 use Rattle.access.specs.Access.{Access, accessSays}
-use Rattle.desk.specs.Order.{inOrder}
+use Rattle.desk.specs.Order.{judgedSays}
 use Rattle.desk.specs.Grant.{grantSays}
 use Rattle.histories.specs.History.{Call, toFill, toAsk, toAskUnjudged, toGrant, toGrantUnjudged, toReturn, toDropHost, toAudit, Leaves, Runs, Reached}
 use Rattle.histories.specs.Callback.{slotAt}
@@ -106,7 +106,7 @@ unjudged (refused number v) verdict own values e = absurd (not-done number v val
 
 module _ (claim : Claim) (access : Access) (t : Table) where
   as-plain : (values : List ℕ) → grantSays claim access t ≡ done values → plainSays claim t ≡ done values
-  unfolding grantSays inOrder plainSays
+  unfolding grantSays judgedSays plainSays
   as-plain values e = unjudged (requestSays claim t) (accessSays access (claim .types)) (serveSays claim t) values e
 
 itself : (slot : Slot) → Shrunk slot slot

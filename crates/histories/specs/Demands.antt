@@ -35,17 +35,17 @@ isRefusal number [] = anyOf (eqb number) (30 ∷ 31 ∷ 23 ∷ 22 ∷ 24 ∷ 32 
 isRefusal number (value ∷ []) = (leb 10 number && leb number 19) || eqb number 35
 isRefusal number (value ∷ other ∷ more) = false
 
-unfoldable pub isAnswer : Said → Bool
-isAnswer (done values) = true
-isAnswer (refused number values) = isRefusal number values
+unfoldable pub isAnswerOrRefusal : Said → Bool
+isAnswerOrRefusal (done values) = true
+isAnswerOrRefusal (refused number values) = isRefusal number values
 
 -- "every call ends with an answer or a numbered refusal of 01's table"
 pub record AnswerOrRefusal (r : Reply) : Type 0 where
-  pub fill : (bytes after : List ℕ) → Fills bytes r after → isAnswer (replySays r) ≡ true
-  pub ask : (bytes out after : List ℕ) (claim : Claim) (access : Access) → Asks bytes claim access out r after → isAnswer (replySays r) ≡ true
-  pub grant : (bytes after : List ℕ) (claim : Claim) (access : Access) → Grants bytes claim access r after → isAnswer (replySays r) ≡ true
-  pub give-back : (bytes after : List ℕ) (host number types : ℕ) → Returns bytes host number types r after → isAnswer (replySays r) ≡ true
-  pub drop-host : (bytes after : List ℕ) (host : ℕ) → Drops bytes host r after → isAnswer (replySays r) ≡ true
+  pub fill : (bytes after : List ℕ) → Fills bytes r after → isAnswerOrRefusal (replySays r) ≡ true
+  pub ask : (bytes out after : List ℕ) (claim : Claim) (access : Access) → Asks bytes claim access out r after → isAnswerOrRefusal (replySays r) ≡ true
+  pub grant : (bytes after : List ℕ) (claim : Claim) (access : Access) → Grants bytes claim access r after → isAnswerOrRefusal (replySays r) ≡ true
+  pub give-back : (bytes after : List ℕ) (host number types : ℕ) → Returns bytes host number types r after → isAnswerOrRefusal (replySays r) ≡ true
+  pub drop-host : (bytes after : List ℕ) (host : ℕ) → Drops bytes host r after → isAnswerOrRefusal (replySays r) ≡ true
 
 -- "a refusal leaves every lent byte as it was", of each call that is lent bytes to change
 pub record RefusalsChangeNothing (r : Reply) : Type 0 where
