@@ -1,0 +1,35 @@
+use Prim.Native.Nat.{_≤_, _-_}
+use borrow.Author.Needs.{needs}
+use lib.ListN.{length}
+use Rattle.console.proofs.holding.all.Statement.{statement}
+use Rattle.console.proofs.holding.all.Tie as tie
+
+abbrev Inv-loop : tie.InvT-loop
+Inv-loop table at₀ n₀ at n = n ≤ at
+
+abbrev μ-loop : tie.MeasureT-loop
+μ-loop table at₀ n₀ at n = length table - at
+
+pub all-spec : {M : Type 1} → statement M
+all-spec =
+    tie.close
+    (tie.spec
+    Inv-loop
+    μ-loop
+    (λ c κs. search needs)
+    (λ c κs. search needs)
+    (λ c. search needs)
+    (λ c. search needs)
+    (λ c. search needs)
+    (λ c. search needs)
+    (λ c. search needs)
+    (λ c. search needs)
+    (λ c. search needs)
+    (λ c κs. search needs)
+    (λ c κs. search needs)
+    (λ c. search needs)
+    (λ c. search needs)
+    (λ c. search needs)
+    (λ c. search needs)
+    (λ c κs. search needs)
+    (λ c. search needs))

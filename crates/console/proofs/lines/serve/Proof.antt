@@ -1,0 +1,38 @@
+use mathlib.Core.Path.{_≡_}
+use borrow.Author.Needs.{needs}
+use lib.ListN.{length}
+use Rattle.console.proofs.lines.serve.Statement.{statement}
+use Rattle.console.proofs.lines.serve.Tie as tie
+
+abbrev Inv-loop : tie.InvT-loop
+Inv-loop line₀ table₀ list₀ out₀ groups₀ session₀ turns₀ line table list out groups session turns =
+    (length line ≡ length line₀) × (length table ≡ length table₀) × (length list ≡ length list₀) × (length out ≡ length out₀) × (length groups ≡ length groups₀)
+
+abbrev μ-loop : tie.MeasureT-loop
+μ-loop line₀ table₀ list₀ out₀ groups₀ session₀ turns₀ line table list out groups session turns = turns
+
+pub serve-spec : {M : Type 1} → statement M
+serve-spec =
+    tie.close
+    (tie.spec
+    Inv-loop
+    μ-loop
+    (λ c κs. search needs)
+    (λ c κs. search needs)
+    (λ c. search needs)
+    (λ c. search needs)
+    (λ c. search needs)
+    (λ c. search needs)
+    (λ c. search needs)
+    (λ c. search needs)
+    (λ c. search needs)
+    (λ c. search needs)
+    (λ c κs. search needs)
+    (λ c. search needs)
+    (λ c. search needs)
+    (λ c. search needs)
+    (λ c. search needs)
+    (λ c. search needs)
+    (λ c. search needs)
+    (λ c. search needs)
+    (λ c. search needs))

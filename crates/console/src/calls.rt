@@ -1,0 +1,230 @@
+// The calls, on what the console remembers.
+use crate::amounts::MOST_8;
+use crate::amounts::MOST_16;
+use crate::amounts::MOST_32;
+use crate::amounts::MOST_64;
+use crate::amounts::amount;
+use crate::hexes::are_bytes;
+use crate::hexes::file_id;
+use crate::hexes::is_dash;
+use crate::hexes::realm;
+use crate::memory::Memory;
+use crate::memory::least;
+use crate::says::edited;
+use crate::says::error;
+use crate::says::found;
+use crate::says::reply;
+use crate::says::text;
+use crate::says::verdict;
+use crate::spaced::word;
+use claims::Claim;
+use edit::Entry;
+use edit::drop_entry;
+use edit::put_entry;
+use evaluate::check_list;
+use rights::decide;
+ghost use Prim.Native.Nat.{_≤_};
+
+pub(crate) fn fill(memory: Memory, table: &mut [u8]) {
+    let n = least(memory.table, table.len());
+    reply(desk::fill(&mut table[0..n]));
+}
+
+pub(crate) fn drop_host(line: &[u8], memory: Memory, table: &mut [u8]) {
+    let host = amount(word(line, 1), MOST_16);
+    if !host.fits {
+        error(b"HOST is a number up to 65535");
+        return;
+    }
+    let n = least(memory.table, table.len());
+    reply(desk::drop_host(&mut table[0..n], host.value as u16));
+}
+
+pub(crate) fn audit(memory: Memory, table: &[u8]) {
+    let n = least(memory.table, table.len());
+    if desk::audit(&table[0..n]) {
+        text(b"yes\n");
+        return;
+    }
+    text(b"no\n");
+}
+
+// A claim, if the words say one.
+pub struct Request {
+    pub fits: bool,
+    pub claim: Claim,
+}
+
+fn request_in(line: &[u8]) -> Request {
+    let host = amount(word(line, 1), MOST_16);
+    let types = amount(word(line, 2), MOST_16);
+    let file = word(line, 3);
+    let first = amount(word(line, 4), MOST_64);
+    let last = amount(word(line, 5), MOST_64);
+    Request {
+        fits: host.fits & types.fits & are_bytes(file, 12) & first.fits & last.fits,
+        claim: Claim {
+            types: types.value as u16,
+            host: host.value as u16,
+            file: file_id(file),
+            first: first.value,
+            last: last.value,
+        },
+    }
+}
+
+fn misspelled_request() {
+    error(
+        b"HOST and TYPES are numbers up to 65535, FILE is 24 hex digits, FIRST and LAST are numbers of 64 bits",
+    );
+}
+
+pub(crate) fn ask(
+    line: &[u8],
+    memory: Memory,
+    table: &[u8],
+    list: &[u8],
+    groups: &[u32],
+    out: &mut [u8],
+) {
+    let request = request_in(line);
+    if !request.fits {
+        misspelled_request();
+        return;
+    }
+    let t = least(memory.table, table.len());
+    let l = least(memory.list, list.len());
+    let g = least(memory.further, groups.len());
+    let o = least(memory.room, out.len());
+    let claim = request.claim;
+    let caller = memory.caller;
+    let file = memory.file;
+    let guard = memory.guard;
+    reply(desk::ask(
+        &table[0..t],
+        claim,
+        &list[0..l],
+        &groups[0..g],
+        caller,
+        file,
+        guard,
+        &mut out[0..o],
+    ));
+}
+
+pub(crate) fn grant(line: &[u8], memory: Memory, table: &mut [u8], list: &[u8], groups: &[u32]) {
+    let request = request_in(line);
+    if !request.fits {
+        misspelled_request();
+        return;
+    }
+    let t = least(memory.table, table.len());
+    let l = least(memory.list, list.len());
+    let g = least(memory.further, groups.len());
+    let claim = request.claim;
+    let caller = memory.caller;
+    let file = memory.file;
+    let guard = memory.guard;
+    reply(desk::grant(
+        &mut table[0..t],
+        claim,
+        &list[0..l],
+        &groups[0..g],
+        caller,
+        file,
+        guard,
+    ));
+}
+
+pub(crate) fn give_back(line: &[u8], memory: Memory, table: &mut [u8]) {
+    let host = amount(word(line, 1), MOST_16);
+    let number = amount(word(line, 2), MOST_64);
+    let types = amount(word(line, 3), MOST_16);
+    if !(host.fits & number.fits & types.fits) {
+        error(b"HOST and TYPES are numbers up to 65535, NUMBER is one of 64 bits");
+        return;
+    }
+    let n = least(memory.table, table.len());
+    reply(desk::give_back(
+        &mut table[0..n],
+        host.value as u16,
+        number.value,
+        types.value as u16,
+    ));
+}
+
+pub(crate) fn check(memory: Memory, list: &[u8]) {
+    let n = least(memory.list, list.len());
+    verdict(check_list(&list[0..n]));
+}
+
+pub(crate) fn rights(memory: Memory, list: &[u8], groups: &[u32]) {
+    let l = least(memory.list, list.len());
+    let g = least(memory.further, groups.len());
+    let caller = memory.caller;
+    let file = memory.file;
+    let guard = memory.guard;
+    found(decide(&list[0..l], &groups[0..g], caller, file, guard));
+}
+
+// An entry, if the words say one.
+pub struct Item {
+    pub fits: bool,
+    pub entry: Entry,
+}
+
+// A realm where the kind has one; elsewhere it may be left out.
+fn is_realm(word: &[u8], kind: u64) -> bool {
+    if are_bytes(word, 16) {
+        return true;
+    }
+    is_dash(word) & ((kind < 9) | (11 < kind))
+}
+
+fn item_in(line: &[u8], rights: u64) -> Item
+    requires { ⌜ rights ≤ 255 ⌝ }
+{
+    let kind = amount(word(line, 1), MOST_8);
+    let name = word(line, 2);
+    let id = amount(word(line, 3), MOST_32);
+    Item {
+        fits: kind.fits & is_realm(name, kind.value) & id.fits,
+        entry: Entry {
+            kind: kind.value as u8,
+            realm: realm(name),
+            id: id.value as u32,
+            rights: rights as u8,
+        },
+    }
+}
+
+fn misspelled_entry() {
+    error(
+        b"KIND and RIGHTS are numbers up to 255, REALM is 32 hex digits or - where the kind has none, ID is a number of 32 bits",
+    );
+}
+
+pub(crate) fn put(line: &[u8], memory: Memory, list: &[u8], out: &mut [u8]) {
+    let rights = amount(word(line, 4), MOST_8);
+    let item = item_in(line, rights.value);
+    if !(item.fits & rights.fits) {
+        misspelled_entry();
+        return;
+    }
+    let l = least(memory.list, list.len());
+    let o = least(memory.room, out.len());
+    let entry = item.entry;
+    edited(put_entry(&list[0..l], entry, &mut out[0..o]));
+}
+
+pub(crate) fn unput(line: &[u8], memory: Memory, list: &[u8], out: &mut [u8]) {
+    let item = item_in(line, 0);
+    if !item.fits {
+        misspelled_entry();
+        return;
+    }
+    let l = least(memory.list, list.len());
+    let o = least(memory.room, out.len());
+    let entry = item.entry;
+    edited(drop_entry(&list[0..l], entry, &mut out[0..o]));
+}

@@ -1,0 +1,152 @@
+// Bytes as hex digits, read and written.
+use crate::memory::least;
+use crate::says::text;
+use claims::FileId;
+use words::Realm;
+ghost use Prim.Native.Nat.{_+_, _≤_};
+ghost use lib.ListN.{length};
+
+// A hex digit's number; 16 for what is none.
+fn nibble(letter: u8) -> u8
+    ensures { λ r. ⌜ r ≤ 16 ⌝ }
+{
+    if letter < 48 {
+        return 16;
+    }
+    if letter < 58 {
+        return letter - 48;
+    }
+    if letter < 65 {
+        return 16;
+    }
+    if letter < 71 {
+        return letter - 55;
+    }
+    if letter < 97 {
+        return 16;
+    }
+    if letter < 103 {
+        return letter - 87;
+    }
+    16
+}
+
+// Hex digits alone, two for each of so many bytes.
+pub(crate) fn are_bytes(word: &[u8], n: usize) -> bool {
+    if word.len() / 2 != n {
+        return false;
+    }
+    if word.len() % 2 != 0 {
+        return false;
+    }
+    let mut i = 0;
+    while i < word.len() {
+        if nibble(word[i]) == 16 {
+            return false;
+        }
+        i += 1;
+    }
+    true
+}
+
+// No bytes.
+pub(crate) fn is_dash(word: &[u8]) -> bool {
+    if word.len() != 1 {
+        return false;
+    }
+    word[0] == 45
+}
+
+// The bytes of hex digits, as many as there is room for.
+pub(crate) fn write_bytes(word: &[u8], out: &mut [u8]) {
+    let mut i = 0;
+    while i < out.len() {
+        if word.len() / 2 <= i {
+            return;
+        }
+        out[i] = nibble(word[i * 2]) % 16 * 16 + nibble(word[i * 2 + 1]) % 16;
+        i += 1;
+    }
+}
+
+// The number of the digits from a place to another, the highest first; what lies above 64 bits is dropped.
+fn number(word: &[u8], from: usize, to: usize) -> u64 {
+    let mut n = 0u64;
+    let mut i = from;
+    while i < to {
+        if word.len() <= i {
+            return n;
+        }
+        n = n % 1152921504606846976 * 16 + (nibble(word[i]) % 16) as u64;
+        i += 1;
+    }
+    n
+}
+
+pub(crate) fn realm(word: &[u8]) -> Realm {
+    Realm {
+        hi: number(word, 0, 16),
+        lo: number(word, 16, 32),
+    }
+}
+
+pub(crate) fn file_id(word: &[u8]) -> FileId {
+    FileId {
+        hi: number(word, 0, 16),
+        lo: (number(word, 16, 24) % 4294967296) as u32,
+    }
+}
+
+// The letter of the lower digit.
+fn letter(byte: u8) -> u8 {
+    let n = byte % 16;
+    if n < 10 {
+        return n + 48;
+    }
+    n + 87
+}
+
+// As many bytes as a piece has room for, from a place on, and answers how many.
+fn spell(bytes: &[u8], from: usize, piece: &mut [u8]) -> usize
+    requires { ⌜ from ≤ length (now bytes) ⌝ }
+    ensures { λ r. ⌜ (r ≤ 2048) × (from + r ≤ length (now (bytes .entry))) ⌝ }
+{
+    let mut n = 0;
+    while n < 2048 {
+        if bytes.len() - from <= n {
+            return n;
+        }
+        if piece.len() <= n * 2 + 1 {
+            return n;
+        }
+        piece[n * 2] = letter(bytes[from + n] / 16);
+        piece[n * 2 + 1] = letter(bytes[from + n]);
+        n += 1;
+    }
+    n
+}
+
+// The first letters of a piece.
+fn first(piece: &[u8], n: usize) {
+    let n = least(n, piece.len());
+    text(&piece[0..n]);
+}
+
+// The bytes in hex, and '-' where there are none.
+pub(crate) fn show(bytes: &[u8]) {
+    if bytes.len() == 0 {
+        text(b"-\n");
+        return;
+    }
+    let mut piece = io::buffer();
+    let mut at = 0;
+    while at < bytes.len() {
+        let n = spell(bytes, at, &mut piece);
+        if n == 0 {
+            break;
+        }
+        first(&piece, n * 2);
+        at += n;
+    }
+    text(b"\n");
+}

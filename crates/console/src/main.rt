@@ -1,0 +1,22 @@
+// The console: each line of standard input is a command, and each command is answered.
+mod amounts;
+mod calls;
+mod commands;
+mod files;
+mod hexes;
+mod holding;
+mod lines;
+mod memory;
+mod says;
+mod setting;
+mod showing;
+mod spaced;
+
+fn main() {
+    let mut line = [0u8; 16384];
+    let mut table = io::large_buffer();
+    let mut list = [0u8; 16384];
+    let mut out = [0u8; 16384];
+    let mut groups = [0u32; 40];
+    lines::serve(&mut line, &mut table, &mut list, &mut out, &mut groups);
+}

@@ -1,0 +1,208 @@
+// What the calls go by: the table's bytes, the list, the caller, the file, its guard, the room for output.
+use crate::amounts::MOST_32;
+use crate::amounts::amount;
+use crate::hexes::are_bytes;
+use crate::hexes::is_dash;
+use crate::hexes::realm;
+use crate::hexes::write_bytes;
+use crate::memory::Memory;
+use crate::memory::copy;
+use crate::memory::least;
+use crate::says::done;
+use crate::says::done_with;
+use crate::says::error;
+use crate::spaced::count;
+use crate::spaced::word;
+use check::same;
+use evaluate::Caller;
+use evaluate::File;
+use rights::Guard;
+
+const WIDTH: usize = 41;
+
+// A table of so many slots fits the buffer.
+const MOST_SLOTS: u64 = 1597;
+
+const MOST_OUT: u64 = 16384;
+
+// The place of the first further group among the words of a line.
+const FURTHER: usize = 4;
+
+fn clear(bytes: &mut [u8], n: usize) {
+    let mut i = 0;
+    while i < bytes.len() {
+        if n <= i {
+            return;
+        }
+        bytes[i] = 0;
+        i += 1;
+    }
+}
+
+fn is_hex(word: &[u8]) -> bool {
+    if word.len() == 0 {
+        return false;
+    }
+    is_dash(word) | are_bytes(word, word.len() / 2)
+}
+
+// The bytes that a word says, and answers how many: '-' says none.
+fn take(word: &[u8], buffer: &mut [u8]) -> usize {
+    let n = least(word.len() / 2, buffer.len());
+    write_bytes(word, &mut buffer[0..n]);
+    n
+}
+
+fn table_bytes(bytes: &[u8], memory: Memory, table: &mut [u8]) -> Memory {
+    if !is_hex(bytes) {
+        error(b"BYTES are hex digits, two for each, or -");
+        return memory;
+    }
+    let n = take(bytes, table);
+    done_with(n as u64);
+    memory.with_table(n)
+}
+
+pub(crate) fn table(line: &[u8], memory: Memory, table: &mut [u8]) -> Memory {
+    let what = word(line, 1);
+    if same(what, b"hex") {
+        return table_bytes(word(line, 2), memory, table);
+    }
+    let slots = amount(what, MOST_SLOTS);
+    if !(slots.fits & (count(line) == 2)) {
+        error(b"table N, up to 1597 slots, or table hex BYTES");
+        return memory;
+    }
+    let n = slots.value as usize * WIDTH + WIDTH;
+    clear(table, n);
+    done_with(n as u64);
+    memory.with_table(n)
+}
+
+pub(crate) fn list(line: &[u8], memory: Memory, list: &mut [u8]) -> Memory {
+    let bytes = word(line, 1);
+    if !is_hex(bytes) {
+        error(b"BYTES are hex digits, two for each, or -");
+        return memory;
+    }
+    let n = take(bytes, list);
+    done_with(n as u64);
+    memory.with_list(n)
+}
+
+// The first bytes of the output buffer become the list.
+pub(crate) fn keep(line: &[u8], memory: Memory, list: &mut [u8], out: &[u8]) -> Memory {
+    let length = amount(word(line, 1), MOST_OUT);
+    if !length.fits {
+        error(b"LENGTH is a number up to 16384");
+        return memory;
+    }
+    let n = least(length.value as usize, out.len());
+    copy(&out[0..n], list);
+    done_with(n as u64);
+    memory.with_list(n)
+}
+
+// Every word from a place on is an id.
+fn are_ids(line: &[u8], from: usize) -> bool {
+    let n = count(line);
+    let mut k = from;
+    while k < n {
+        if !amount(word(line, k), MOST_32).fits {
+            return false;
+        }
+        k += 1;
+    }
+    true
+}
+
+// The ids from the first further group on, and answers how many.
+fn take_ids(line: &[u8], groups: &mut [u32]) -> usize {
+    let n = count(line);
+    let mut i = 0;
+    while i < groups.len() {
+        if n <= FURTHER {
+            return i;
+        }
+        if n - FURTHER <= i {
+            return i;
+        }
+        groups[i] = amount(word(line, FURTHER + i), MOST_32).value as u32;
+        i += 1;
+    }
+    i
+}
+
+pub(crate) fn caller(line: &[u8], memory: Memory, groups: &mut [u32]) -> Memory {
+    let name = word(line, 1);
+    let user = amount(word(line, 2), MOST_32);
+    let group = amount(word(line, 3), MOST_32);
+    if !(are_bytes(name, 16) & user.fits & group.fits & are_ids(line, FURTHER)) {
+        error(b"REALM is 32 hex digits, USER and each GROUP a number of 32 bits");
+        return memory;
+    }
+    let further = take_ids(line, groups);
+    let caller = Caller {
+        realm: realm(name),
+        user: user.value as u32,
+        group: group.value as u32,
+    };
+    done();
+    memory.with_caller(caller, further)
+}
+
+pub(crate) fn file(line: &[u8], memory: Memory) -> Memory {
+    let owner = amount(word(line, 1), MOST_32);
+    let group = amount(word(line, 2), MOST_32);
+    let what = word(line, 3);
+    let dir = same(what, b"dir");
+    if !(owner.fits & group.fits & (dir | same(what, b"file"))) {
+        error(b"OWNER and GROUP are numbers of 32 bits, then file or dir");
+        return memory;
+    }
+    let file = File {
+        owner: owner.value as u32,
+        group: group.value as u32,
+        dir: dir,
+    };
+    done();
+    memory.with_file(file)
+}
+
+fn by_mode(line: &[u8], memory: Memory) -> Memory {
+    let name = word(line, 2);
+    let mode = amount(word(line, 3), MOST_32);
+    if !(are_bytes(name, 16) & mode.fits) {
+        error(b"REALM is 32 hex digits, MODE a number of 32 bits");
+        return memory;
+    }
+    let guard = Guard::Mode {
+        realm: realm(name),
+        mode: mode.value as u32,
+    };
+    done();
+    memory.with_guard(guard)
+}
+
+pub(crate) fn guard(line: &[u8], memory: Memory) -> Memory {
+    let what = word(line, 1);
+    if same(what, b"mode") {
+        return by_mode(line, memory);
+    }
+    if !(same(what, b"list") & (count(line) == 2)) {
+        error(b"guard list, or guard mode REALM MODE");
+        return memory;
+    }
+    done();
+    memory.with_guard(Guard::List)
+}
+
+pub(crate) fn room(line: &[u8], memory: Memory) -> Memory {
+    let room = amount(word(line, 1), MOST_OUT);
+    if !room.fits {
+        error(b"BYTES is a number up to 16384");
+        return memory;
+    }
+    done();
+    memory.with_room(room.value as usize)
+}

@@ -1,0 +1,15 @@
+use borrow.Author.Needs.{needs}
+use Rattle.mastarik.proofs.Carried.{gives}
+use Rattle.mastarik.proofs.lists.mastarik_rights.Statement.{statement}
+use Rattle.mastarik.proofs.lists.mastarik_rights.Tie as tie
+
+pub mastarik-rights-spec : {M : Type 1} → statement M
+mastarik-rights-spec =
+    tie.close
+    (tie.spec
+    (λ c κs. search needs)
+    (λ c κs. search needs)
+    (λ c κs. search needs)
+    (λ c κs. search needs)
+    (λ c κs. search needs)
+    (λ c. gives (c .before .before .before .before .before .before .before .args .caller) (c .before .before .before .before .before .before .before .args .file) (c .before .before .before .before .caller-of .ensures) (c .before .before .before .file-of .ensures) (c .before .before .guard-of .ensures) (c .of-found .ensures) (c .before .decide .ensures)))

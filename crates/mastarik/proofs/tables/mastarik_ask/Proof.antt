@@ -1,0 +1,17 @@
+use borrow.Author.Needs.{needs}
+use Rattle.mastarik.proofs.Carried.{asks}
+use Rattle.mastarik.proofs.tables.mastarik_ask.Statement.{statement}
+use Rattle.mastarik.proofs.tables.mastarik_ask.Tie as tie
+
+pub mastarik-ask-spec : {M : Type 1} → statement M
+mastarik-ask-spec =
+    tie.close
+    (tie.spec
+    (λ c κs. search needs)
+    (λ c κs. search needs)
+    (λ c κs. search needs)
+    (λ c κs. search needs)
+    (λ c κs. search needs)
+    (λ c κs. search needs)
+    (λ c. search needs)
+    (λ c. asks (c .before .before .before .before .before .before .before .before .before .before .before .before .before .args .caller) (c .before .before .before .before .before .before .before .before .before .before .before .before .before .args .file) (c .before .before .before .before .before .before .before .caller-of .ensures) (c .before .before .before .before .before .before .file-of .ensures) (c .before .before .before .before .before .guard-of .ensures) (c .before .before .before .before .before .before .before .before .claim-of .ensures) (c .of-reply .ensures) (c .before .before .before .ask .ensures)))

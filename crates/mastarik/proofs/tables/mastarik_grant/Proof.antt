@@ -1,0 +1,17 @@
+use borrow.Author.Needs.{needs}
+use Rattle.mastarik.proofs.Carried.{grants}
+use Rattle.mastarik.proofs.tables.mastarik_grant.Statement.{statement}
+use Rattle.mastarik.proofs.tables.mastarik_grant.Tie as tie
+
+pub mastarik-grant-spec : {M : Type 1} → statement M
+mastarik-grant-spec =
+    tie.close
+    (tie.spec
+    (λ c κs. search needs)
+    (λ c κs. search needs)
+    (λ c κs. search needs)
+    (λ c κs. search needs)
+    (λ c κs. search needs)
+    (λ c κs. search needs)
+    (λ c. search needs)
+    (λ c. grants (c .before .before .before .before .before .before .before .before .before .before .before .before .args .caller) (c .before .before .before .before .before .before .before .before .before .before .before .before .args .file) (c .before .before .before .before .before .before .caller-of .ensures) (c .before .before .before .before .before .file-of .ensures) (c .before .before .before .before .guard-of .ensures) (c .before .before .before .before .before .before .before .claim-of .ensures) (c .of-reply .ensures) (c .before .before .before .grant .ensures)))

@@ -1,0 +1,49 @@
+-- The calls on a token table, as C has them.
+use mathlib.Core.Path.{_≡_}
+use mathlib.Core.List.{List}
+use Prim.Native.Nat.{ℕ}
+use Rattle.words.specs.Said.{left}
+use Rattle.table.specs.Call.{saysOf, leftOf}
+use Rattle.table.specs.Fill.{filled, fillSays}
+use Rattle.table.specs.Layout.{tableOf, bytesOf, count}
+use Rattle.tokens.specs.Ask.{listFor}
+use Rattle.tokens.specs.DropHost.{dropSays, dropped}
+use Rattle.tokens.specs.Grant.{granted}
+use Rattle.tokens.specs.Return.{returnSays, returned}
+use Rattle.audit.specs.Audit.{sound}
+use Rattle.access.specs.Access.{Access}
+use Rattle.desk.specs.Ask.{askSays}
+use Rattle.desk.specs.Grant.{grantSays}
+use Rattle.mastarik.specs.Answer.{answerOf, truthSays}
+use Rattle.mastarik.specs.Given.{claimOf}
+use Rattle.mastarik.specs.declared.answer.Answer.{Answer}
+use Rattle.mastarik.specs.declared.given.Claim.{Claim}
+
+-- filling a table
+pub record Fills (bytes : List ℕ) (r : Answer) (after : List ℕ) : Type 0 where
+  pub answer : r ≡ answerOf (fillSays bytes)
+  pub table-after : after ≡ left (fillSays bytes) (bytesOf (filled (count bytes))) bytes
+
+-- asking what is in the way
+pub record Asks (bytes : List ℕ) (claim : Claim) (access : Access) (out : List ℕ) (r : Answer) (after : List ℕ) : Type 0 where
+  pub answer : r ≡ answerOf (saysOf (askSays (claimOf claim) access out) bytes)
+  pub out-after : after ≡ left (saysOf (askSays (claimOf claim) access out) bytes) (listFor (claimOf claim) (tableOf bytes)) out
+
+-- granting a token
+pub record Grants (bytes : List ℕ) (claim : Claim) (access : Access) (r : Answer) (after : List ℕ) : Type 0 where
+  pub answer : r ≡ answerOf (saysOf (grantSays (claimOf claim) access) bytes)
+  pub table-after : after ≡ leftOf (grantSays (claimOf claim) access) (granted (claimOf claim)) bytes
+
+-- returning types of a token
+pub record Returns (bytes : List ℕ) (host number types : ℕ) (r : Answer) (after : List ℕ) : Type 0 where
+  pub answer : r ≡ answerOf (saysOf (returnSays host number types) bytes)
+  pub table-after : after ≡ leftOf (returnSays host number types) (returned host number types) bytes
+
+-- dropping a host
+pub record DropsHost (bytes : List ℕ) (host : ℕ) (r : Answer) (after : List ℕ) : Type 0 where
+  pub answer : r ≡ answerOf (saysOf (dropSays host) bytes)
+  pub table-after : after ≡ leftOf (dropSays host) (dropped host) bytes
+
+-- auditing a table
+pub record Audits (bytes : List ℕ) (r : Answer) : Type 0 where
+  pub answer : r ≡ answerOf (truthSays (sound bytes))

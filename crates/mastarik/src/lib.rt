@@ -1,0 +1,21 @@
+// The static library: every call, for C.
+mod answer;
+mod given;
+mod lists;
+mod tables;
+
+pub use answer::Answer;
+pub use given::Caller;
+pub use given::Claim;
+pub use given::Entry;
+pub use given::File;
+pub use lists::mastarik_check;
+pub use lists::mastarik_drop_entry;
+pub use lists::mastarik_put_entry;
+pub use lists::mastarik_rights;
+pub use tables::mastarik_ask;
+pub use tables::mastarik_audit;
+pub use tables::mastarik_drop_host;
+pub use tables::mastarik_fill;
+pub use tables::mastarik_grant;
+pub use tables::mastarik_return;

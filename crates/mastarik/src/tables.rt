@@ -1,0 +1,87 @@
+// The calls on a token table.
+use crate::answer::Answer;
+use crate::answer::of_reply;
+use crate::answer::of_truth;
+use crate::given::Caller;
+use crate::given::Claim;
+use crate::given::File;
+use crate::given::caller_of;
+use crate::given::claim_of;
+use crate::given::file_of;
+use crate::given::guard_of;
+ghost use Rattle.mastarik.specs.Given.{accessOf};
+ghost use Rattle.mastarik.specs.Tables.{Fills, Asks, Grants, Returns, DropsHost, Audits};
+
+#[no_mangle]
+pub extern "C" fn mastarik_fill(table: &mut [u8]) -> Answer
+    ensures { λ r. ⌜ Fills (now (table .entry)) r (now (table .exit)) ⌝ }
+{
+    of_reply(desk::fill(table))
+}
+
+#[no_mangle]
+pub extern "C" fn mastarik_ask(
+    table: &[u8],
+    claim: Claim,
+    list: &[u8],
+    groups: &[u32],
+    caller: Caller,
+    file: File,
+    out: &mut [u8],
+) -> Answer
+    ensures { λ r. ⌜ Asks (now (table .entry)) claim (accessOf (now (list .entry)) (now (groups .entry)) caller file) (now (out .entry)) r (now (out .exit)) ⌝ }
+{
+    of_reply(desk::ask(
+        table,
+        claim_of(claim),
+        list,
+        groups,
+        caller_of(caller),
+        file_of(file),
+        guard_of(file),
+        out,
+    ))
+}
+
+#[no_mangle]
+pub extern "C" fn mastarik_grant(
+    table: &mut [u8],
+    claim: Claim,
+    list: &[u8],
+    groups: &[u32],
+    caller: Caller,
+    file: File,
+) -> Answer
+    ensures { λ r. ⌜ Grants (now (table .entry)) claim (accessOf (now (list .entry)) (now (groups .entry)) caller file) r (now (table .exit)) ⌝ }
+{
+    of_reply(desk::grant(
+        table,
+        claim_of(claim),
+        list,
+        groups,
+        caller_of(caller),
+        file_of(file),
+        guard_of(file),
+    ))
+}
+
+#[no_mangle]
+pub extern "C" fn mastarik_return(table: &mut [u8], host: u16, number: u64, types: u16) -> Answer
+    ensures { λ r. ⌜ Returns (now (table .entry)) host number types r (now (table .exit)) ⌝ }
+{
+    of_reply(desk::give_back(table, host, number, types))
+}
+
+#[no_mangle]
+pub extern "C" fn mastarik_drop_host(table: &mut [u8], host: u16) -> Answer
+    ensures { λ r. ⌜ DropsHost (now (table .entry)) host r (now (table .exit)) ⌝ }
+{
+    of_reply(desk::drop_host(table, host))
+}
+
+#[no_mangle]
+pub extern "C" fn mastarik_audit(table: &[u8]) -> Answer
+    ensures { λ r. ⌜ Audits (now (table .entry)) r ⌝ }
+{
+    of_truth(desk::audit(table))
+}

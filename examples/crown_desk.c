@@ -1,0 +1,312 @@
+/* A crown desk's day at a case server: each line printed tells what a call answered. An answer that is not the expected
+ * one ends the program with 1, so the day is a test as well. "The paper" is 01.
+ */
+#include <inttypes.h>
+#include <stdio.h>
+#include <stdlib.h>
+#include <string.h>
+
+#include "mastarik.h"
+
+/* The paper's realm R, and another. */
+#define LAB 17, 17, 17, 17, 17, 17, 17, 17, 17, 17, 17, 17, 17, 17, 17, 17
+#define ELSEWHERE 34, 34, 34, 34, 34, 34, 34, 34, 34, 34, 34, 34, 34, 34, 34, 34
+
+/* Case 1 is the crown's: its design, then its notes. Cases 2 to 11 are others. */
+enum { CROWN = 1, LAST_CASE = 11, DESIGN_LAST = 49999, NOTES_FIRST = 50000, NOTES_LAST = 50999 };
+enum { SLOTS = 16, READ_WRITE = MASTARIK_READ | MASTARIK_WRITE, ALL_RIGHTS = 63 };
+enum { TO_MILL = MASTARIK_DATA_READ | MASTARIK_OPEN_SHARED, TO_EDIT = MASTARIK_DATA_READ | MASTARIK_DATA_WRITE };
+
+/* A host, and who is logged in at it. */
+struct station {
+    const char *name;
+    uint16_t host;
+    mastarik_caller caller;
+    uint32_t groups[1];
+    size_t group_count;
+};
+
+typedef mastarik_answer edit_call(const uint8_t *, size_t, mastarik_entry, uint8_t *, size_t);
+
+/* The mill is in group 4 by its further groups; the visiting designer has the crown desk's number in another realm. */
+static const struct station design_station = {"design station", 1, {{LAB}, 7, 6}, {0}, 0};
+static const struct station mill = {"mill", 2, {{LAB}, 8, 6}, {4}, 1};
+static const struct station crown_desk = {"crown desk", 3, {{LAB}, 9, 4}, {0}, 0};
+static const struct station visitor = {"visiting designer", 4, {{ELSEWHERE}, 9, 6}, {0}, 0};
+static const struct station *const stations[] = {&design_station, &mill, &crown_desk, &visitor};
+
+static const char *const right_names[] = {"read", "write", "execute", "control", "insert", "delete"};
+static const char *const type_names[] = {"data read", "data write", "status read", "status write",
+                                         "lock read", "lock write", "open shared", "open exclusive"};
+
+/* Every case is the crown desk's, owner 9 and group 4, and one list guards them all: the paper's list E, once built. */
+static const mastarik_file case_file = {9, 4, 0, 0, {0}, 0};
+static const uint8_t list_e[] = {
+    MASTARIK_DEFAULT_REALM, LAB,
+    MASTARIK_USER_OBJ, 15,
+    MASTARIK_GROUP_OBJ, 5,
+    MASTARIK_OTHER_OBJ, 4,
+    MASTARIK_MASK_OBJ, 3,
+    MASTARIK_USER, 0, 0, 0, 7, 7,
+};
+static uint8_t list[4096];
+static size_t list_length;
+static uint8_t table[MASTARIK_SLOT_SIZE * (1 + SLOTS)];
+
+/* Ends the program where an answer is not the expected one. */
+static void expect(const char *what, uint64_t found, uint64_t expected)
+{
+    if (found != expected) {
+        fflush(stdout);
+        fprintf(stderr, "\ncrown_desk: %s: expected %" PRIu64 ", found %" PRIu64 "\n", what, expected, found);
+        exit(1);
+    }
+}
+
+/* The refusals that the day meets, in words. */
+static const char *refusal_name(uint32_t refused)
+{
+    switch (refused) {
+    case MASTARIK_MASK_MISSING: return "no mask_obj";
+    case MASTARIK_RIGHT_MISSING: return "a needed right is missing";
+    case MASTARIK_CONFLICT: return "a conflict exists";
+    case MASTARIK_TYPE_LACKING: return "a type that the token lacks";
+    default: return "not met today";
+    }
+}
+
+/* Prints a set of rights or of types: the name of each bit. */
+static void print_set(uint64_t bits, const char *const *names)
+{
+    const char *comma = "";
+    for (int i = 0; bits >> i != 0; i++) {
+        if ((bits >> i) & 1) {
+            printf("%s%s", comma, names[i]);
+            comma = ", ";
+        }
+    }
+}
+
+/* Puts or drops an entry. An edit writes a second buffer, which becomes the list unless the edit is refused. */
+static void edit(edit_call *call, uint8_t kind, uint32_t id, uint8_t rights, uint32_t refused)
+{
+    uint8_t edited[sizeof list];
+    mastarik_entry entry = {kind, rights, {ELSEWHERE}, id};
+    mastarik_answer answer = call(list, list_length, entry, edited, sizeof edited);
+    expect("refusal of an edit", answer.refused, refused);
+    if (refused != 0) {
+        printf("refused with %" PRIu32 ", %s, at place %" PRIu64 ".\n", refused, refusal_name(refused), answer.detail);
+        return;
+    }
+    list_length = answer.value;
+    memcpy(list, edited, list_length);
+    printf("the list has %zu bytes.\n", list_length);
+}
+
+/* Prints a user's rights on a case, and the deciding record: a part of the list, its rights in its last byte. */
+static void show_rights(const char *time, const struct station *who, uint64_t rights)
+{
+    mastarik_answer answer = mastarik_rights(list, list_length, who->groups, who->group_count, who->caller, case_file);
+    expect("refusal of rights", answer.refused, 0);
+    expect("rights", answer.value, rights);
+    printf("%s  The %s's rights are %" PRIu64, time, who->name, answer.value);
+    if (answer.length == 0) {
+        printf(": no record decides.\n");
+        return;
+    }
+    const uint8_t *record = list + answer.start;
+    printf(" by the record of %zu bytes at place %zu:", answer.length, answer.start);
+    for (size_t i = 0; i < answer.length; i++) {
+        printf(" %d", record[i]);
+    }
+    printf(".\n       It says ");
+    print_set(record[answer.length - 1], right_names);
+    int is_masked = record[0] != MASTARIK_USER_OBJ && record[0] != MASTARIK_OTHER_OBJ;
+    printf("; %s ", is_masked ? "the mask leaves" : "unmasked, it gives");
+    print_set(answer.value, right_names);
+    printf(".\n");
+}
+
+/* Expects a call's refusal, or 0; a refusal is printed, and must have left every byte of the table as it was. */
+static void settle(const char *what, mastarik_answer answer, uint32_t refused, const uint8_t *before)
+{
+    expect(what, answer.refused, refused);
+    if (refused != 0) {
+        expect("change by a refusal", memcmp(before, table, sizeof table) != 0, 0);
+        printf("refused with %" PRIu32 ", %s; the table's %zu bytes are as they were.\n", refused,
+               refusal_name(refused), sizeof table);
+    }
+}
+
+static mastarik_claim claim_of(const struct station *who, uint16_t types, uint8_t number, uint64_t first, uint64_t last)
+{
+    mastarik_claim claim = {types, who->host, {0, 0, 0, 0, 0, 0, 0, 0, 0, 0, 0, number}, first, last};
+    return claim;
+}
+
+/* Claims a token for a station, and prints it or the refusal. */
+static uint64_t grant(const struct station *who, mastarik_claim claim, uint32_t refused)
+{
+    uint8_t before[sizeof table];
+    memcpy(before, table, sizeof table);
+    mastarik_answer answer = mastarik_grant(table, sizeof table, claim, list, list_length, who->groups,
+                                            who->group_count, who->caller, case_file);
+    settle("refusal of a grant", answer, refused, before);
+    if (refused == 0) {
+        printf("token %" PRIu64 ", bytes %" PRIu64 " to %" PRIu64 ", ", answer.value, claim.first, claim.last);
+        print_set(claim.types, type_names);
+        printf(".\n");
+    }
+    return answer.value;
+}
+
+/* Returns types of a station's token, and prints that it is done or the refusal. */
+static void give_back(const struct station *who, uint64_t number, uint16_t types, uint32_t refused)
+{
+    uint8_t before[sizeof table];
+    memcpy(before, table, sizeof table);
+    mastarik_answer answer = mastarik_return(table, sizeof table, who->host, number, types);
+    settle("refusal of a return", answer, refused, before);
+    if (refused == 0) {
+        printf("done.\n");
+    }
+}
+
+/* Numbers in the list that ask writes are big-endian. */
+static uint64_t number_at(const uint8_t *bytes, size_t size)
+{
+    uint64_t number = 0;
+    for (size_t i = 0; i < size; i++) {
+        number = (number << 8) | bytes[i];
+    }
+    return number;
+}
+
+/* Asks what is in the way of a claim, and prints it: of so many tokens, these types. Answers the first one's number. */
+static uint64_t ask(const struct station *who, mastarik_claim claim, uint64_t count, uint16_t types)
+{
+    uint8_t entries[MASTARIK_CALL_BACK_SIZE * SLOTS];
+    mastarik_answer answer = mastarik_ask(table, sizeof table, claim, list, list_length, who->groups, who->group_count,
+                                          who->caller, case_file, entries, sizeof entries);
+    expect("refusal of an ask", answer.refused, 0);
+    expect("tokens in the way", answer.value, count);
+    printf("%" PRIu64 " in all.", count);
+    for (uint64_t i = 0; i < count; i++) {
+        const uint8_t *entry = entries + MASTARIK_CALL_BACK_SIZE * i;
+        printf(" Of token %" PRIu64, number_at(entry + 1, 8));
+        printf(" at the %s: ", stations[number_at(entry + 9, 2) - 1]->name);
+        print_set(number_at(entry + 11, 2), type_names);
+        printf(".");
+        expect("types to call back", number_at(entry + 11, 2), types);
+    }
+    printf("\n");
+    return number_at(entries + 1, 8);
+}
+
+static void switch_off(const char *time, const struct station *who, uint64_t slots)
+{
+    mastarik_answer answer = mastarik_drop_host(table, sizeof table, who->host);
+    expect("slots of a host", answer.value, slots);
+    printf("%s  The %s's host is switched off; slots freed: %" PRIu64 ".\n", time, who->name, answer.value);
+}
+
+/* The list begins without mask_obj and user records; the first of these wants the mask to be there. */
+static void open_the_case(void)
+{
+    list_length = 23;
+    memcpy(list, list_e, list_length);
+    expect("refusal of the list", mastarik_check(list, list_length).refused, 0);
+    printf("08:00  The crown desk opens case 1, a crown; its list of %zu bytes passes the check.\n", list_length);
+    printf("08:01  User 7, the designer, is put with read, write, execute: ");
+    edit(mastarik_put_entry, MASTARIK_USER, 7, 7, MASTARIK_MASK_MISSING);
+    printf("08:02  mask_obj is put with read, write: ");
+    edit(mastarik_put_entry, MASTARIK_MASK_OBJ, 0, READ_WRITE, 0);
+    printf("08:03  User 7 is put once more: ");
+    edit(mastarik_put_entry, MASTARIK_USER, 7, 7, 0);
+    expect("difference from list E", list_length != sizeof list_e || memcmp(list, list_e, sizeof list_e) != 0, 0);
+    show_rights("08:05", &crown_desk, 15);
+    show_rights("08:05", &design_station, READ_WRITE);
+    show_rights("08:05", &mill, MASTARIK_READ);
+}
+
+/* The design station comes to hold twelve tokens: the crown's design, its notes, and ten other cases. */
+static void design_the_crown(void)
+{
+    expect("refusal of fill", mastarik_fill(table, sizeof table).refused, 0);
+    printf("08:10  The table of tokens is filled: %zu bytes, %d free slots.\n", sizeof table, SLOTS);
+    printf("08:20  The design station opens the crown's design: ");
+    grant(&design_station, claim_of(&design_station, TO_MILL | TO_EDIT, CROWN, 0, DESIGN_LAST), 0);
+    printf("08:21  It takes notes on the crown: ");
+    grant(&design_station, claim_of(&design_station, TO_EDIT, CROWN, NOTES_FIRST, NOTES_LAST), 0);
+    for (uint8_t number = CROWN + 1; number <= LAST_CASE; number++) {
+        printf("08:30  It takes up case %d: ", number);
+        grant(&design_station, claim_of(&design_station, TO_EDIT, number, 0, DESIGN_LAST), 0);
+    }
+}
+
+/* Of the twelve tokens one is in the way, and of that one the write alone; once it is returned the mill is served. */
+static uint64_t move_the_seating(void)
+{
+    mastarik_claim design = claim_of(&mill, TO_MILL, CROWN, 0, DESIGN_LAST);
+    printf("10:40  The seating moves from four o'clock to noon, and the mill wants the whole design: ");
+    grant(&mill, design, MASTARIK_CONFLICT);
+    printf("10:41  Tokens in the mill's way: ");
+    uint64_t in_the_way = ask(&mill, design, 1, MASTARIK_DATA_WRITE);
+    printf("10:42  Called back, the design station returns that one type: ");
+    give_back(&design_station, in_the_way, MASTARIK_DATA_WRITE, 0);
+    printf("10:42  It returns it a second time: ");
+    give_back(&design_station, in_the_way, MASTARIK_DATA_WRITE, MASTARIK_TYPE_LACKING);
+    printf("10:43  The mill is served, and the crown mills at once: ");
+    uint64_t token = grant(&mill, design, 0);
+    design = claim_of(&crown_desk, MASTARIK_DATA_WRITE | MASTARIK_OPEN_EXCLUSIVE, CROWN, 0, DESIGN_LAST);
+    printf("10:44  Tokens in the crown desk's way, should it write and open it alone: ");
+    ask(&crown_desk, design, 2, TO_MILL);
+    return token;
+}
+
+/* While the crown mills nobody but its owner may write: the mask sees to it, whatever a record says. */
+static void receive_the_visitor(mastarik_claim design)
+{
+    printf("11:00  mask_obj is put with read alone, for as long as the crown mills: ");
+    edit(mastarik_put_entry, MASTARIK_MASK_OBJ, 0, MASTARIK_READ, 0);
+    show_rights("11:05", &visitor, 0);
+    printf("11:10  foreign_user 9, the visiting designer, is put with all rights: ");
+    edit(mastarik_put_entry, MASTARIK_FOREIGN_USER, 9, ALL_RIGHTS, 0);
+    show_rights("11:10", &visitor, MASTARIK_READ);
+    printf("11:11  The visiting designer wants to write the design: ");
+    grant(&visitor, design, MASTARIK_RIGHT_MISSING);
+}
+
+/* A wider mask gives the right; the read that the design station kept is in the way until its host is dropped. */
+static void let_the_visitor_write(mastarik_claim design)
+{
+    printf("12:30  mask_obj is put with read, write: ");
+    edit(mastarik_put_entry, MASTARIK_MASK_OBJ, 0, READ_WRITE, 0);
+    show_rights("12:30", &visitor, READ_WRITE);
+    printf("12:31  The visiting designer wants to write the design: ");
+    grant(&visitor, design, MASTARIK_CONFLICT);
+    printf("12:31  Tokens in the visiting designer's way: ");
+    ask(&visitor, design, 1, MASTARIK_DATA_READ);
+    switch_off("12:40", &design_station, 12);
+    printf("12:41  The visiting designer wants to write the design: ");
+    grant(&visitor, design, 0);
+}
+
+int main(void)
+{
+    mastarik_claim redesign = claim_of(&visitor, MASTARIK_DATA_WRITE, CROWN, 0, DESIGN_LAST);
+    open_the_case();
+    design_the_crown();
+    uint64_t token = move_the_seating();
+    receive_the_visitor(redesign);
+    printf("11:50  The crown is milled, to be seated at noon; the mill returns token %" PRIu64 " whole: ", token);
+    give_back(&mill, token, TO_MILL, 0);
+    let_the_visitor_write(redesign);
+    printf("17:00  foreign_user 9 is dropped: ");
+    edit(mastarik_drop_entry, MASTARIK_FOREIGN_USER, 9, 0, 0);
+    expect("difference from list E", list_length != sizeof list_e || memcmp(list, list_e, sizeof list_e) != 0, 0);
+    switch_off("17:00", &visitor, 1);
+    expect("audit", mastarik_audit(table, sizeof table).value, 1);
+    printf("18:00  Audit says yes.\n");
+    return 0;
+}

@@ -1,0 +1,9 @@
+/* A part of the C library's header, for x86-64 Linux: the kit has none. */
+#ifndef STDBOOL_H
+#define STDBOOL_H
+
+#define bool _Bool
+#define true 1
+#define false 0
+
+#endif
