@@ -15,8 +15,8 @@ use Rattle.claims.specs.declared.claim.Claim.{Claim as TheClaim}
 use Rattle.table.specs.Reply.{replySays}
 use Rattle.table.specs.declared.reply.Reply.{Reply}
 use Rattle.access.specs.Access.{accessOf as theAccess}
-use Rattle.desk.specs.Ask.{Asks as AsksTable}
 use Rattle.desk.specs.Grant.{Grants as GrantsToken}
+use Rattle.desk.specs.Ask.{Asks as AsksTable}
 use Rattle.mastarik.specs.Answer.{answerFor, answerOf}
 use Rattle.mastarik.specs.Given.{callerOf, fileOf, guardOf, entryOf, claimOf, accessOf}
 use Rattle.mastarik.specs.Lists.{decidedFor, GivesRights, Puts, Drops}

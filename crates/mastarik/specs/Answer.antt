@@ -3,8 +3,8 @@ use mathlib.Core.Bool.{Bool}
 use mathlib.Core.List.{[], _∷_}
 use Prim.Native.Nat.{ℕ}
 use lib.ListN.{getD}
-use Rattle.words.specs.Said.{Said, done, refused}
 use Rattle.words.specs.Test.{if_then_else_}
+use Rattle.words.specs.Said.{Said, done, refused}
 use Rattle.mastarik.specs.declared.answer.Answer.{Answer}
 
 -- with the deciding record's place and length

@@ -3,9 +3,9 @@ use mathlib.Core.Bool.{not}
 use mathlib.Core.List.{List}
 use Prim.Native.Nat.{ℕ}
 use lib.Dec.{eqb}
+use Rattle.words.specs.Test.{if_then_else_}
 use Rattle.words.specs.Number.{numberAt}
 use Rattle.words.specs.Realm.{realmAt}
-use Rattle.words.specs.Test.{if_then_else_}
 use Rattle.evaluate.specs.declared.asking.Caller.{Caller as TheCaller}
 use Rattle.evaluate.specs.declared.asking.File.{File as TheFile}
 use Rattle.rights.specs.declared.guard.Guard.{Guard}

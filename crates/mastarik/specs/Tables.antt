@@ -3,17 +3,17 @@ use mathlib.Core.Path.{_≡_}
 use mathlib.Core.List.{List}
 use Prim.Native.Nat.{ℕ}
 use Rattle.words.specs.Said.{left}
-use Rattle.table.specs.Call.{saysOf, leftOf}
-use Rattle.table.specs.Fill.{filled, fillSays}
 use Rattle.table.specs.Layout.{tableOf, bytesOf, count}
-use Rattle.tokens.specs.Ask.{listFor}
-use Rattle.tokens.specs.DropHost.{dropSays, dropped}
+use Rattle.table.specs.Fill.{filled, fillSays}
+use Rattle.table.specs.Call.{saysOf, leftOf}
 use Rattle.tokens.specs.Grant.{granted}
+use Rattle.tokens.specs.Ask.{listFor}
 use Rattle.tokens.specs.Return.{returnSays, returned}
+use Rattle.tokens.specs.DropHost.{dropSays, dropped}
 use Rattle.audit.specs.Audit.{sound}
 use Rattle.access.specs.Access.{Access}
-use Rattle.desk.specs.Ask.{askSays}
 use Rattle.desk.specs.Grant.{grantSays}
+use Rattle.desk.specs.Ask.{askSays}
 use Rattle.mastarik.specs.Answer.{answerOf, truthSays}
 use Rattle.mastarik.specs.Given.{claimOf}
 use Rattle.mastarik.specs.declared.answer.Answer.{Answer}

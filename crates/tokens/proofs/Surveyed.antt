@@ -4,6 +4,7 @@ use mathlib.Core.Bool.{Bool, true, false, cond}
 use mathlib.Core.List.{List, [], _∷_, _++_}
 use Prim.Native.Nat.{ℕ, _+_, _*_, _≤_, _<_}
 use native.Mathlib.Omega.{arith}
+use borrow.Author.Tests.{eqb-true, eq-eqb, ne-eqb}
 use lib.Dec.{eqb}
 use lib.ListN.{length, take, length-append}
 use lib.Seq.{take-all, length-take-le}
@@ -19,7 +20,7 @@ use Rattle.table.specs.declared.slot.Slot.{Slot}
 use Rattle.table.proofs.Cuts.{table-length, table-more}
 use Rattle.table.proofs.Scans.{Checked, none-checked, one-checked, one-bad, all-checked}
 use Rattle.tokens.specs.Grant.{isFree, isInTheWay}
-use Rattle.tokens.specs.Scan.{Passes, Saw, SurveysSlots, Surveys}
+use Rattle.tokens.specs.Scan.{Passes, SurveysSlots, Surveys}
 use Rattle.tokens.specs.declared.survey.Seen.{Seen}
 
 -- one element more among those that pass
@@ -33,16 +34,43 @@ counted-more test xs x =
     go true = refl
     go false = omega arith
 
+-- the lowest free place, which is p of so many slots; n where none is free
+unfoldable pub lowest : ℕ → ℕ → ℕ → ℕ
+lowest n p slots = if eqb p slots then n else p
+
+-- one slot more
+lowest-more : (n p slots : ℕ) → slots < n → p ≤ slots → (free : Bool)
+    → lowest n (if free then p else if eqb p slots then p + 1 else p) (slots + 1) ≡ (if free then (if eqb (lowest n p slots) n then slots else lowest n p slots) else lowest n p slots)
+unfolding lowest
+lowest-more n p slots h w free = go (eqb p slots) refl free
+  where
+    go : (none : Bool) → eqb p slots ≡ none → (free : Bool)
+        → lowest n (if free then p else if eqb p slots then p + 1 else p) (slots + 1) ≡ (if free then (if eqb (lowest n p slots) n then slots else lowest n p slots) else lowest n p slots)
+    go true e true = rw (e, ne-eqb p (slots + 1) (λ q. omega (arith, q)), eq-eqb n n refl) (eqb-true p slots e)
+    go false e true = rw (e, ne-eqb p (slots + 1) (λ q. omega (arith, q)), ne-eqb p n (λ q. omega (arith, q))) refl
+    go true e false = rw (e, eq-eqb (p + 1) (slots + 1) (ap (λ (m : ℕ). m + 1) (eqb-true p slots e))) refl
+    go false e false = rw (e, ne-eqb p (slots + 1) (λ q. omega (arith, q))) refl
+
+-- all of them
+lowest-whole : (n p slots : ℕ) → slots ≡ n → lowest n p slots ≡ p
+unfolding lowest
+lowest-whole n p slots e = rw e (go (eqb p n) refl)
+  where
+    go : (none : Bool) → eqb p n ≡ none → (if eqb p n then n else p) ≡ p
+    go true d = rw d (sym (eqb-true p n d))
+    go false d = rw d refl
+
 -- what was seen of the first i slots
 pub record Looked (bytes : List ℕ) (claim : Claim) (top next i : ℕ) (seen : Seen) : Type 0 where
   pub checked : Checked bytes top next i
   pub formed : seen .formed ≡ true
-  pub saw : Saw (take i (tableOf bytes .slots)) claim seen
+  pub conflicts : seen .conflicts ≡ length (those (isInTheWay claim) (take i (tableOf bytes .slots)))
+  pub free : seen .free ≡ lowest (count bytes) (placeOf isFree (take i (tableOf bytes .slots))) i
 
 module _ (bytes : List ℕ) (claim : Claim) (top next : ℕ) where
-  pub none-looked : isLength (length bytes) ≡ true → Looked bytes claim top next 0 (record { formed = true; conflicts = 0; free = 0 })
-  unfolding those placeOf
-  none-looked e = record { checked = none-checked bytes top next e; formed = refl; saw = record { conflicts = refl; free = refl } }
+  pub none-looked : isLength (length bytes) ≡ true → Looked bytes claim top next 0 (record { formed = true; conflicts = 0; free = count bytes })
+  unfolding those placeOf lowest
+  none-looked e = record { checked = none-checked bytes top next e; formed = refl; conflicts = refl; free = refl }
 
   module _ (i : ℕ) (seen : Seen) (so-far : Looked bytes claim top next i seen) where
     length-so-far : length (take i (tableOf bytes .slots)) ≡ i
@@ -50,33 +78,34 @@ module _ (bytes : List ℕ) (claim : Claim) (top next : ℕ) where
 
     pub few-conflicts : seen .conflicts ≤ 1024
     few-conflicts =
-        omega (arith, so-far .saw .conflicts, those-few (isInTheWay claim) (take i (tableOf bytes .slots)), length-so-far, so-far .checked .within, so-far .checked .size .few)
-
-    pub few-free : seen .free ≤ 1024
-    few-free =
-        omega (arith, so-far .saw .free, place-within isFree (take i (tableOf bytes .slots)), length-so-far, so-far .checked .within, so-far .checked .size .few)
+        omega (arith, so-far .conflicts, those-few (isInTheWay claim) (take i (tableOf bytes .slots)), length-so-far, so-far .checked .within, so-far .checked .size .few)
 
     module _ (h : i < count bytes) {b : Bool} (told : b ≡ isSlot top next (part (width * (i + 1)) width bytes)) where
-      pub one-looked : {slot : Slot} {r : Seen} → b ≡ true → slot ≡ slotOf (part (width * (i + 1)) width bytes) → Passes seen i slot claim r
+      pub one-looked : {slot : Slot} {r : Seen} → b ≡ true → slot ≡ slotOf (part (width * (i + 1)) width bytes) → Passes seen i (count bytes) slot claim r
           → Looked bytes claim top next (i + 1) r
       one-looked {slot} {r} good read p =
+          let place : placeOf isFree (take i (tableOf bytes .slots)) ≤ i = omega (arith, length-so-far, place-within isFree (take i (tableOf bytes .slots))) in
           let more : take (i + 1) (tableOf bytes .slots) ≡ take i (tableOf bytes .slots) ++ (slot ∷ []) = table-more bytes i h ∙ rw (← read) refl in
           record {
             checked = one-checked bytes top next i (so-far .checked) h told good;
             formed = p .formed ∙ so-far .formed;
-            saw = record {
-              conflicts = p .conflicts ∙ rw (so-far .saw .conflicts, more) (sym (counted-more (isInTheWay claim) (take i (tableOf bytes .slots)) slot));
-              free = p .free ∙ rw (so-far .saw .free, more) (ap (λ (n : ℕ). if isFree slot then placeOf isFree (take i (tableOf bytes .slots)) else if eqb (placeOf isFree (take i (tableOf bytes .slots))) n then placeOf isFree (take i (tableOf bytes .slots)) + 1 else placeOf isFree (take i (tableOf bytes .slots))) (sym length-so-far) ∙ sym (place-more isFree (take i (tableOf bytes .slots)) slot));
-            };
+            conflicts = p .conflicts ∙ rw (so-far .conflicts, more) (sym (counted-more (isInTheWay claim) (take i (tableOf bytes .slots)) slot));
+            free = p .free ∙ rw (so-far .free, more, place-more isFree (take i (tableOf bytes .slots)) slot, length-so-far) (sym (lowest-more (count bytes) (placeOf isFree (take i (tableOf bytes .slots))) i h place (isFree slot)));
           }
 
-      pub ill-looked : b ≡ false → SurveysSlots bytes claim top next (record { formed = false; conflicts = 0; free = 0 })
+      pub ill-looked : b ≡ false → {conflicts free : ℕ} → SurveysSlots bytes claim top next (record { formed = false; conflicts = conflicts; free = free })
       ill-looked bad = record { formed = one-bad bytes top next i (so-far .checked) h told bad; saw = λ e. absurd (differ (sym e)) }
 
     pub all-looked : count bytes ≤ i → SurveysSlots bytes claim top next seen
     all-looked h =
         let all : take i (tableOf bytes .slots) ≡ tableOf bytes .slots = take-all i (tableOf bytes .slots) (rw (table-length bytes) h) in
-        record { formed = so-far .formed ∙ all-checked bytes top next i (so-far .checked) h; saw = λ e. rw all at (so-far .saw) }
+        record {
+          formed = so-far .formed ∙ all-checked bytes top next i (so-far .checked) h;
+          saw = λ e. record {
+            conflicts = so-far .conflicts ∙ ap (λ (slots : List Slot). length (those (isInTheWay claim) slots)) all;
+            free = so-far .free ∙ lowest-whole (count bytes) (placeOf isFree (take i (tableOf bytes .slots))) i (omega (arith, h, so-far .checked .within)) ∙ ap (placeOf isFree) all;
+          };
+        }
 
 -- of the whole table
 pub no-survey : (bytes : List ℕ) (claim : Claim) {b : Bool} → b ≡ opening bytes → b ≡ false

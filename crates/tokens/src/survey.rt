@@ -12,10 +12,11 @@ use words::number64;
 ghost use mathlib.Core.Path.{_≡_};
 ghost use mathlib.Core.Bool.{true};
 ghost use Prim.Native.Nat.{_+_, _≤_};
+ghost use lib.Dec.{eqb};
 ghost use lib.ListN.{length};
 ghost use Rattle.words.specs.Test.{if_then_else_};
 ghost use Rattle.table.specs.Form.{isLength};
-ghost use Rattle.tokens.specs.Scan.{PassesToken, Passes, SurveysSlots, Surveys};
+ghost use Rattle.tokens.specs.Scan.{Passes, SurveysSlots, Surveys};
 
 // Conflicts are counted; the free place is how many slots there are where none is free.
 pub(crate) struct Seen {
@@ -31,33 +32,32 @@ fn one_more(n: usize, test: bool) -> usize
     if test { n + 1 } else { n }
 }
 
-// The slots up to the one at i, a token's.
-fn pass_token(seen: Seen, i: usize, held: Claim, claim: Claim) -> Seen
-    requires { ⌜ (seen .conflicts ≤ 1024) × (seen .free ≤ 1024) ⌝ }
-    ensures { λ r. ⌜ PassesToken seen i held claim r ⌝ }
+// The slot at i of n is free, and the lowest one where none is before it.
+fn lowest(free: usize, i: usize, n: usize) -> usize
+    ensures { λ r. ⌜ r ≡ (if eqb free n then i else free) ⌝ }
 {
-    Seen {
-        formed: seen.formed,
-        conflicts: one_more(seen.conflicts, conflict(held, claim) != 0),
-        free: one_more(seen.free, seen.free == i),
-    }
+    if free == n { i } else { free }
 }
 
-// The slots up to the one at i. What was seen is made anew in both arms: so it stays in registers.
-fn pass(seen: Seen, i: usize, slot: Slot, claim: Claim) -> Seen
-    requires { ⌜ (seen .conflicts ≤ 1024) × (seen .free ≤ 1024) ⌝ }
-    ensures { λ r. ⌜ Passes seen i slot claim r ⌝ }
+// One slot more, the one at i of n. What was seen is made anew in both arms: so it stays in registers.
+fn pass(seen: Seen, i: usize, n: usize, slot: Slot, claim: Claim) -> Seen
+    requires { ⌜ seen .conflicts ≤ 1024 ⌝ }
+    ensures { λ r. ⌜ Passes seen i n slot claim r ⌝ }
 {
     match slot {
         Slot::Free => Seen {
             formed: seen.formed,
             conflicts: seen.conflicts,
-            free: seen.free,
+            free: lowest(seen.free, i, n),
         },
         Slot::Held {
             number: _,
             claim: held,
-        } => pass_token(seen, i, held, claim),
+        } => Seen {
+            formed: seen.formed,
+            conflicts: one_more(seen.conflicts, conflict(held, claim) != 0),
+            free: seen.free,
+        },
     }
 }
 
@@ -69,7 +69,7 @@ fn survey_slots(table: &[u8], claim: Claim, limit: u16, next: u64) -> Seen
     let mut seen = Seen {
         formed: true,
         conflicts: 0,
-        free: 0,
+        free: n,
     };
     let mut i = 0;
     while i < n {
@@ -78,11 +78,11 @@ fn survey_slots(table: &[u8], claim: Claim, limit: u16, next: u64) -> Seen
         if !is_slot(slot, limit, next) {
             return Seen {
                 formed: false,
-                conflicts: 0,
-                free: 0,
+                conflicts: seen.conflicts,
+                free: seen.free,
             };
         }
-        seen = pass(seen, i, read_slot(slot), claim);
+        seen = pass(seen, i, n, read_slot(slot), claim);
         i += 1;
     }
     seen

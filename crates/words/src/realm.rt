@@ -39,11 +39,17 @@ pub fn write_realm(bytes: &mut [u8], at: usize, realm: Realm)
 pub fn same_realm(a: Realm, b: Realm) -> bool
     ensures { λ r. ⌜ TellsRealms a b r ⌝ }
 {
-    (a.hi == b.hi) & (a.lo == b.lo)
+    if a.hi != b.hi {
+        return false;
+    }
+    a.lo == b.lo
 }
 
 pub fn is_unknown(realm: Realm) -> bool
     ensures { λ r. ⌜ TellsUnknown realm r ⌝ }
 {
-    (realm.hi == UNKNOWN_HI) & (realm.lo == 0)
+    if realm.hi != UNKNOWN_HI {
+        return false;
+    }
+    realm.lo == 0
 }

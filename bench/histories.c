@@ -1,0 +1,110 @@
+/* A history: random calls from fill on. */
+#include "histories.h"
+
+#include <string.h>
+
+#include "draw.h"
+#include "inputs.h"
+
+enum { ENTRY_SIZE = MASTARIK_CALL_BACK_SIZE, SLOT_LIMIT = 40 };
+
+static struct input input, scratch;
+
+static void expect_audit(struct input *in)
+{
+    expect(lockstep(AUDIT, in).value == 1, "the audit of a table reached from fill says no", in);
+}
+
+/* Reads an entry of ask's list into what return takes. */
+static void read_entry(struct input *in, const uint8_t *entry)
+{
+    in->number = 0;
+    for (size_t i = 1; i <= 8; i++)
+        in->number = in->number << 8 | entry[i];
+    in->host = (uint16_t)(entry[9] << 8 | entry[10]);
+    in->types = (uint16_t)(entry[11] << 8 | entry[12]);
+}
+
+/* On a copy of the table, returns what ask listed in random order, an entry or one of its types at a time: grant is
+ * refused with 32 exactly until the last is back.
+ */
+static void follow_ask(size_t count, struct history_counts *counts)
+{
+    scratch = input;
+    for (size_t left = count; left > 0;) {
+        expect(lockstep(GRANT, &scratch).refused == MASTARIK_CONFLICT, "granted before all came back", &scratch);
+        uint8_t *entry = scratch.out + ENTRY_SIZE * draw_below(left);
+        read_entry(&scratch, entry);
+        if (draw_chance(50))
+            scratch.types &= -scratch.types; /* the lowest of them alone */
+        expect(lockstep(RETURN, &scratch).refused == 0, "what ask lists cannot be returned", &scratch);
+        expect_audit(&scratch);
+        entry[12] &= ~scratch.types;
+        if (entry[12] == 0)
+            memmove(entry, scratch.out + ENTRY_SIZE * --left, ENTRY_SIZE);
+    }
+    mastarik_answer answer = lockstep(GRANT, &scratch);
+    expect(answer.refused == 0 || answer.refused == MASTARIK_NO_FREE_SLOT || answer.refused == MASTARIK_NUMBERS_SPENT,
+           "not granted after all came back", &scratch);
+    expect_audit(&scratch);
+    counts->asks++;
+    counts->several += count > 1;
+    counts->called_back += count;
+    counts->granted += answer.refused == 0;
+}
+
+static void make_request(void)
+{
+    make_claim(&input, draw_chance(97));
+    if (draw_chance(20))
+        make_list(&input, true);
+    make_access(&input, draw_chance(97));
+    if (draw_chance(70))
+        favour_caller(&input);
+}
+
+static void step(struct history_counts *counts)
+{
+    unsigned kind = (unsigned)draw_below(100);
+    if (kind < 30) {
+        make_request();
+        if (draw_chance(50))
+            input.claim.types |= draw() & 0xaa;
+        input.out_length = draw_chance(95) ? ENTRY_SIZE * SLOT_LIMIT : ENTRY_SIZE * draw_below(4);
+        mastarik_answer answer = lockstep(ASK, &input);
+        if (answer.refused == 0)
+            follow_ask(answer.value, counts);
+    } else if (kind < 79) {
+        make_request();
+        lockstep(GRANT, &input);
+    } else if (kind < 98) {
+        make_return(&input);
+        lockstep(RETURN, &input);
+    } else {
+        input.host = (uint16_t)draw_below(5);
+        lockstep(DROP_HOST, &input);
+    }
+    expect_audit(&input);
+    counts->steps++;
+}
+
+/* Fills the table; some histories start with the last few numbers only. */
+static void begin(void)
+{
+    input.table_length = MASTARIK_SLOT_SIZE * (2 + draw_below(draw_chance(50) ? 4 : SLOT_LIMIT));
+    draw_bytes(input.table, input.table_length);
+    expect(lockstep(FILL, &input).refused == 0, "fill is refused", &input);
+    if (draw_chance(25)) {
+        memset(input.table + 33, 255, 8);
+        input.table[40] = (uint8_t)(150 + draw_below(106));
+    }
+    expect_audit(&input);
+}
+
+void play_history(struct history_counts *counts)
+{
+    make_list(&input, true);
+    begin();
+    for (uint64_t steps = 100 + draw_below(300); steps > 0; steps--)
+        step(counts);
+}
