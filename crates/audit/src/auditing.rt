@@ -16,6 +16,15 @@ ghost use Rattle.table.specs.declared.slot.Slot.the-variants.{Held};
 ghost use Rattle.audit.specs.Audit.{apart, allApart, Audits};
 
 // Another number and no conflict.
+fn tokens_apart(given: u64, held: Claim, number: u64, claim: Claim) -> bool
+    ensures { λ r. ⌜ r ≡ apart (Held given held) (Held number claim) ⌝ }
+{
+    if given == number {
+        return false;
+    }
+    conflict(held, claim) == 0
+}
+
 fn is_apart(slot: Slot, number: u64, claim: Claim) -> bool
     ensures { λ r. ⌜ r ≡ apart slot (Held number claim) ⌝ }
 {
@@ -24,7 +33,7 @@ fn is_apart(slot: Slot, number: u64, claim: Claim) -> bool
         Slot::Held {
             number: given,
             claim: held,
-        } => (given != number) & (conflict(held, claim) == 0),
+        } => tokens_apart(given, held, number, claim),
     }
 }
 

@@ -17,8 +17,7 @@ use check::same;
 use evaluate::Caller;
 use evaluate::File;
 use rights::Guard;
-
-const WIDTH: usize = 41;
+use table::WIDTH;
 
 // A table of so many slots fits the buffer.
 const MOST_SLOTS: u64 = 1597;

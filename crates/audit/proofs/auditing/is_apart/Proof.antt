@@ -1,4 +1,4 @@
-use mathlib.Core.Path.{refl}
+use mathlib.Core.Path.{refl, _∙_}
 use borrow.Author.Needs.{needs}
 use Rattle.audit.specs.Audit.{apart}
 use Rattle.audit.proofs.auditing.is_apart.Statement.{statement}
@@ -13,4 +13,4 @@ is-apart-spec =
     (λ c. search needs)
     (λ c κs. search needs)
     (λ c. rw (c .enum-told .given .1) refl)
-    (λ c. rw (c .before .before .slot .given .1, c .conflict .ensures .answer) refl))
+    (λ c. c .tokens-apart .ensures ∙ rw (c .before .before .slot .given .1) refl))
