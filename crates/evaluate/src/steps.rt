@@ -15,6 +15,7 @@ use list::kind::USER_OBJ;
 use words::same_realm;
 ghost use mathlib.Core.Path.{_≡_};
 ghost use mathlib.Core.Bool.{true, false};
+ghost use Prim.Native.Nat.{_<_};
 ghost use Rattle.words.specs.Test.{if_then_else_};
 ghost use Rattle.evaluate.specs.Steps.{steps};
 ghost use Rattle.evaluate.specs.Tally.{stepFrom};
@@ -33,17 +34,12 @@ fn when(test: bool, step: u8) -> u8
     NONE
 }
 
-// For a caller of the default realm.
-fn step_here(groups: &[u32], caller: Caller, file: File, r: Record) -> u8
+// For a caller of the default realm: the kinds before user.
+fn step_by_object(groups: &[u32], caller: Caller, file: File, r: Record) -> u8
+    requires { ⌜ r .kind < 7 ⌝ }
     ensures { λ n. ⌜ n ≡ stepFrom 1 (steps true (now (groups .entry)) caller file) r ⌝ }
 {
     let kind = r.kind;
-    if kind == USER {
-        return when(r.id == caller.user, 2);
-    }
-    if kind == GROUP {
-        return when(is_in_group(caller, groups, r.id), 3);
-    }
     if kind == USER_OBJ {
         return when(caller.user == file.owner, 1);
     }
@@ -54,6 +50,23 @@ fn step_here(groups: &[u32], caller: Caller, file: File, r: Record) -> u8
         return 4;
     }
     when(kind == ANY_OTHER, 6)
+}
+
+// For a caller of the default realm. Users and groups, of which lists are long, are asked for first.
+fn step_here(groups: &[u32], caller: Caller, file: File, r: Record) -> u8
+    ensures { λ n. ⌜ n ≡ stepFrom 1 (steps true (now (groups .entry)) caller file) r ⌝ }
+{
+    let kind = r.kind;
+    if kind < USER {
+        return step_by_object(groups, caller, file, r);
+    }
+    if kind == USER {
+        return when(r.id == caller.user, 2);
+    }
+    if kind == GROUP {
+        return when(is_in_group(caller, groups, r.id), 3);
+    }
+    NONE
 }
 
 // For a caller of another realm, whatever the file.

@@ -6,8 +6,12 @@ use native.Mathlib.Omega.{arith}
 use borrow.Author.Tests.{eqb-true, eqb-false, ltb-true, ltb-false, lt-leb, le-ltb}
 use lib.Dec.{eqb, leb, ltb}
 use lib.ListN.{List·getD-eq-default}
+use Rattle.words.specs.Realm.{zeroRealm, unknownRealm, sameRealm}
+use Rattle.words.specs.declared.realm.Realm.{Realm}
 use Rattle.words.proofs.Tests.{and-left, and-right}
 use Rattle.list.specs.Kind.{Body, body, bodies, bodyOf, size, isForeign}
+use Rattle.list.specs.Fault.{isForbidden}
+use Rattle.list.specs.declared.records.Record.{Record}
 
 -- a test passes at each number below n
 unfoldable pub everyBelow : ℕ → (ℕ → Bool) → Bool
@@ -95,3 +99,19 @@ id-length = everywhere (λ b. either 4 (b .id)) refl refl
 pub rights-length : (k : ℕ) → either 1 (bodyOf k .rights) ≡ true
 unfolding either everyBelow bodyOf bodies body
 rights-length = everywhere (λ b. either 1 (b .rights)) refl refl
+
+-- the objects, the mask, users and groups have no realm
+realmless : ℕ → Bool
+realmless k = ltb k 2 || eqb (bodyOf k .realm) 0
+
+pub no-realm : (k : ℕ) → 1 < k → k < 9 → eqb (bodyOf k .realm) 0 ≡ true
+unfolding realmless everyBelow bodyOf bodies body
+no-realm k l h = rw (le-ltb k 2 l) at (below 9 realmless refl k h)
+
+pub unbarred : (home : Realm) (r : Record) → (eqb (bodyOf (r .kind) .realm) 0 ≡ true → r .realm ≡ zeroRealm)
+    → (ltb 1 (r .kind) && ltb (r .kind) 9) ≡ true → false ≡ isForbidden home r
+unfolding isForbidden sameRealm zeroRealm unknownRealm
+unbarred home r none t =
+    let l = ltb-true 1 (r .kind) (and-left (ltb 1 (r .kind)) (ltb (r .kind) 9) t) in
+    let h = ltb-true (r .kind) 9 (and-right (ltb 1 (r .kind)) (ltb (r .kind) 9) t) in
+    rw (none (no-realm (r .kind) l h), ← foreign-told (r .kind), lt-leb 9 (r .kind) h) refl

@@ -1,5 +1,5 @@
 -- What a record that was read from a tail takes of it. Assumes nothing.
-use mathlib.Core.Path.{_≡_, refl, sym, ap}
+use mathlib.Core.Path.{_≡_, refl, sym, ap, _∙_}
 use mathlib.Core.List.{List}
 use mathlib.Core.Bool.{Bool, true, false, not}
 use Prim.Native.Nat.{ℕ, _+_, _≤_, _<_}
@@ -41,6 +41,14 @@ sized t r i = sym (ap (λ (x : Record). x .size) (i .same))
 
 pub within-tail : (t : List ℕ) (r : Record) → readOf t ≡ Whole r → (0 < r .size) × (r .size ≤ length t)
 within-tail t r q = let i = is t r q in let s = sized t r i in omega (arith, some-size (getD t 0 0), i .enough)
+
+-- where its kind has no realm it names none
+pub nowhere : (t : List ℕ) (r : Record) → readOf t ≡ Whole r → eqb (bodyOf (r .kind) .realm) 0 ≡ true → r .realm ≡ zeroRealm
+unfolding recordOf
+nowhere t r q none =
+    let i = is t r q in
+    let k : getD t 0 0 ≡ r .kind = ap (λ (x : Record). x .kind) (i .same) in
+    sym (ap (λ (x : Record). x .realm) (i .same)) ∙ rw (k, none) refl
 
 -- only an empty tail has nothing to read
 pub empty : (t : List ℕ) → readOf t ≡ Nothing → length t ≡ 0

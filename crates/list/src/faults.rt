@@ -1,6 +1,7 @@
 // What is wrong with a record after the one before it, and with a list after its last record.
 use crate::kind::ANY_OTHER;
 use crate::kind::DEFAULT_REALM;
+use crate::kind::FOREIGN_USER;
 use crate::kind::GROUP_OBJ;
 use crate::kind::MASK_OBJ;
 use crate::kind::OTHER_OBJ;
@@ -17,7 +18,11 @@ use words::Realm;
 use words::is_unknown;
 use words::same_realm;
 ghost use mathlib.Core.Path.{_≡_};
-ghost use Rattle.list.specs.Fault.{fault, endFault, TellsOrder, TellsForbidden, TellsPowerless};
+ghost use mathlib.Core.Bool.{true};
+ghost use lib.Dec.{eqb};
+ghost use Rattle.words.specs.Realm.{zeroRealm};
+ghost use Rattle.list.specs.Kind.{bodyOf};
+ghost use Rattle.list.specs.Fault.{isForbidden, fault, endFault, TellsOrder, TellsForbidden, TellsPowerless};
 ghost use Rattle.list.specs.Walking.{markOf, seenOf};
 ghost use Rattle.list.specs.declared.records.Read.the-variants.{Whole};
 
@@ -56,8 +61,21 @@ pub fn is_forbidden(home: Realm, r: Record) -> bool
     same_realm(realm, home)
 }
 
-// 14, 15 or 16; 0 where the record may stand after the earlier one.
+// The same of a record as it is read: where its kind has no realm it names none.
+fn is_barred(home: Realm, r: Record) -> bool
+    requires { ⌜ (eqb (bodyOf (r .kind) .realm) 0 ≡ true → r .realm ≡ zeroRealm) ⌝ }
+    ensures { λ b. ⌜ b ≡ isForbidden home r ⌝ }
+{
+    let kind = r.kind;
+    if (DEFAULT_REALM < kind) & (kind < FOREIGN_USER) {
+        return false;
+    }
+    is_forbidden(home, r)
+}
+
+// 14, 15 or 16; 0 where the record, as it is read, may stand after the earlier one.
 pub(crate) fn fault_of(home: Realm, earlier: Record, r: Record) -> u8
+    requires { ⌜ (eqb (bodyOf (r .kind) .realm) 0 ≡ true → r .realm ≡ zeroRealm) ⌝ }
     ensures { λ n. ⌜ n ≡ fault home earlier (Whole r) ⌝ }
 {
     if 63 < r.rights {
@@ -66,7 +84,7 @@ pub(crate) fn fault_of(home: Realm, earlier: Record, r: Record) -> u8
     if !in_order(earlier, r) {
         return OUT_OF_ORDER;
     }
-    if is_forbidden(home, r) {
+    if is_barred(home, r) {
         return FORBIDDEN_REALM;
     }
     0

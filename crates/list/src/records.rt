@@ -96,13 +96,13 @@ pub fn read_record(tail: &[u8]) -> Read
         return Read::Nothing;
     }
     let kind = tail[0];
-    if kind < DEFAULT_REALM {
-        return Read::Unknown;
-    }
-    if kind < USER_OBJ {
-        return read_as(tail, kind, 16, 0, 0);
-    }
     if kind <= ANY_OTHER {
+        if kind < DEFAULT_REALM {
+            return Read::Unknown;
+        }
+        if kind < USER_OBJ {
+            return read_as(tail, kind, 16, 0, 0);
+        }
         return read_as(tail, kind, 0, 0, 1);
     }
     if kind <= GROUP {

@@ -13,10 +13,12 @@ use crate::refusal::UNKNOWN_KIND;
 use words::Realm;
 use words::realm_at;
 ghost use mathlib.Core.Path.{_≡_};
-ghost use mathlib.Core.Bool.{not, _&&_};
+ghost use mathlib.Core.Bool.{true, not, _&&_};
 ghost use Prim.Native.Nat.{_+_, _<_, _^_};
 ghost use lib.Dec.{eqb};
 ghost use lib.ListN.{length};
+ghost use Rattle.words.specs.Realm.{zeroRealm};
+ghost use Rattle.list.specs.Kind.{bodyOf};
 ghost use Rattle.list.specs.Reading.{readOf};
 ghost use Rattle.list.specs.Fault.{begins, endFault};
 ghost use Rattle.list.specs.Walking.{seenOf, walkAfter, refusedOr, heard, Starts, Steps};
@@ -86,9 +88,10 @@ impl Walk {
         }
     }
 
-    // A whole record at the walk's place.
+    // A whole record at the walk's place, as it is read.
     fn take(self, r: Record) -> Step
         requires { ⌜ self .at + r .size < 2 ^ 64 ⌝ }
+        requires { ⌜ (eqb (bodyOf (r .kind) .realm) 0 ≡ true → r .realm ≡ zeroRealm) ⌝ }
         ensures { λ s. ⌜ s ≡ heard self (Whole r) ⌝ }
     {
         let home = self.home;

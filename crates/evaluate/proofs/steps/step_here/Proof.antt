@@ -1,6 +1,8 @@
-use mathlib.Core.Path.{_∙_}
+use mathlib.Core.Path.{_∙_, sym, refl}
+use native.Mathlib.Omega.{arith}
 use borrow.Author.Needs.{needs}
-use Rattle.evaluate.proofs.Serving.{here-user, here-group, here-user-obj, here-group-obj, here-other-obj, here-else}
+use borrow.Author.Tests.{ne-eqb}
+use Rattle.evaluate.proofs.Serving.{here-user, here-group, here-else}
 use Rattle.evaluate.proofs.steps.step_here.Statement.{statement}
 use Rattle.evaluate.proofs.steps.step_here.Tie as tie
 
@@ -9,15 +11,10 @@ step-here-spec =
     tie.close
     (tie.spec
     (λ c κs. search needs)
-    (λ c. let p = c .before .before .before .before .before .args in c .when .ensures ∙ here-user (p .groups .now) (p .caller) (p .file) (p .r) (c .before .before .before .if1 .taken))
+    (λ c. search needs)
+    (λ c κs. search needs)
+    (λ c. c .when .ensures ∙ here-user (c .before .before .before .before .before .before .args .groups .now) (c .before .before .before .before .before .before .args .caller) (c .before .before .before .before .before .before .args .file) (c .before .before .before .before .before .before .args .r) (c .before .before .before .if2 .taken))
     (λ c κs. search needs)
     (λ c κs. search needs)
-    (λ c. let p = c .before .before .before .before .before .args in c .when2 .ensures ∙ rw (c .before .is-in-group .ensures .answer) (here-group (p .groups .now) (p .caller) (p .file) (p .r) (c .before .before .if2 .taken)))
-    (λ c κs. search needs)
-    (λ c. let p = c .before .before .before .before .before .before .before .args in c .when3 .ensures ∙ here-user-obj (p .groups .now) (p .caller) (p .file) (p .r) (c .before .before .before .if3 .taken))
-    (λ c κs. search needs)
-    (λ c κs. search needs)
-    (λ c. let p = c .before .before .before .before .before .before .before .args in c .when4 .ensures ∙ rw (c .before .is-in-group2 .ensures .answer) (here-group-obj (p .groups .now) (p .caller) (p .file) (p .r) (c .before .before .if4 .taken)))
-    (λ c. let p = c .before .before .before .before .before .before .args in here-other-obj (p .groups .now) (p .caller) (p .file) (p .r) (c .if5 .taken))
-    (λ c κs. search needs)
-    (λ c. let p = c .before .before .before .before .before .before .before .args in c .when5 .ensures ∙ here-else (p .groups .now) (p .caller) (p .file) (p .r) (c .before .before .before .before .before .if1 .left) (c .before .before .before .before .if2 .left) (c .before .before .before .if3 .left) (c .before .before .if4 .left) (c .before .if5 .left)))
+    (λ c. c .when2 .ensures ∙ rw (c .before .is-in-group .ensures .answer) (here-group (c .before .before .before .before .before .before .args .groups .now) (c .before .before .before .before .before .before .args .caller) (c .before .before .before .before .before .before .args .file) (c .before .before .before .before .before .before .args .r) (c .before .before .if3 .taken)))
+    (λ c. sym (rw (ne-eqb (c .before .before .before .before .args .r .kind) 6 (λ e. omega (arith, e, c .before .before .if1 .left))) refl) ∙ here-else (c .before .before .before .before .args .groups .now) (c .before .before .before .before .args .caller) (c .before .before .before .before .args .file) (c .before .before .before .before .args .r) (c .before .if2 .left) (c .if3 .left) (λ e. omega (arith, e, c .before .before .if1 .left)) (λ e. omega (arith, e, c .before .before .if1 .left)) (λ e. omega (arith, e, c .before .before .if1 .left))))

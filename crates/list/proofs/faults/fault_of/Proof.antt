@@ -13,5 +13,5 @@ fault-of-spec =
     (λ c κs. search needs)
     (λ c. simp (le-ltb _ _ (c .before .before .if1 .left), ← c .before .in-order .ensures .answer, c .if2 .taken))
     (λ c κs. search needs)
-    (λ c. simp (le-ltb _ _ (c .before .before .before .before .if1 .left), ← c .before .before .before .in-order .ensures .answer, c .before .before .if2 .left, ← c .before .is-forbidden .ensures .answer, c .if3 .taken))
-    (λ c. simp (le-ltb _ _ (c .before .before .before .before .if1 .left), ← c .before .before .before .in-order .ensures .answer, c .before .before .if2 .left, ← c .before .is-forbidden .ensures .answer, c .if3 .left)))
+    (λ c. simp (le-ltb _ _ (c .before .before .before .before .if1 .left), ← c .before .before .before .in-order .ensures .answer, c .before .before .if2 .left, ← c .before .is-barred .ensures, c .if3 .taken))
+    (λ c. simp (le-ltb _ _ (c .before .before .before .before .if1 .left), ← c .before .before .before .in-order .ensures .answer, c .before .before .if2 .left, ← c .before .is-barred .ensures, c .if3 .left)))
