@@ -1,7 +1,7 @@
 -- Of a kind without realm and id a list that passes has one record at most. Assumes nothing.
 use mathlib.Core.Path.{_≡_, refl, sym, _∙_, ap}
-use mathlib.Core.List.{List, [], _∷_}
 use mathlib.Core.Bool.{Bool, true, false, cond, not, _||_, _&&_, and-false}
+use mathlib.Core.List.{List, [], _∷_}
 use Prim.Native.Nat.{ℕ, _≤_}
 use native.Mathlib.Omega.{arith}
 use borrow.Author.Tests.{ltb-true, eqb-true}
@@ -17,7 +17,7 @@ use Rattle.list.specs.Reading.{recordOf}
 use Rattle.list.specs.Fault.{noRecord, rises}
 use Rattle.list.specs.Checking.{Placed, records, checkSays}
 use Rattle.list.specs.declared.records.Record.{Record}
-use Rattle.list.proofs.Tails.{Is}
+use Rattle.list.proofs.Tails.{Is, unplaced}
 use Rattle.list.proofs.Passed.{Chain, all-follow}
 
 -- kinds do not fall
@@ -40,7 +40,7 @@ module _ (k : ℕ) (nowhere : bodyOf k .realm ≡ 0) (nameless : bodyOf k .id �
   unfolding recordOf
   unnamed t r i q =
       let s : getD t 0 0 ≡ k = ap (λ (x : Record). x .kind) (i .same) ∙ q in
-      (sym (ap (λ (x : Record). x .realm) (i .same)) ∙ rw (s, nowhere) refl, sym (ap (λ (x : Record). x .id) (i .same)) ∙ rw (s, nameless) refl)
+      (unplaced t r i (rw (q, nowhere) refl), sym (ap (λ (x : Record). x .id) (i .same)) ∙ rw (s, nameless) refl)
 
   twice : (t u : List ℕ) (e r : Record) → Is t e → Is u r → e .kind ≡ k → r .kind ≡ k → rises e r ≡ true → ⊥
   unfolding rises lessRealm zeroRealm

@@ -43,10 +43,9 @@ pub within-tail : (t : List ℕ) (r : Record) → readOf t ≡ Whole r → (0 < 
 within-tail t r q = let i = is t r q in let s = sized t r i in omega (arith, some-size (getD t 0 0), i .enough)
 
 -- where its kind has no realm it names none
-pub nowhere : (t : List ℕ) (r : Record) → readOf t ≡ Whole r → eqb (bodyOf (r .kind) .realm) 0 ≡ true → r .realm ≡ zeroRealm
+pub unplaced : (t : List ℕ) (r : Record) → Is t r → eqb (bodyOf (r .kind) .realm) 0 ≡ true → r .realm ≡ zeroRealm
 unfolding recordOf
-nowhere t r q none =
-    let i = is t r q in
+unplaced t r i none =
     let k : getD t 0 0 ≡ r .kind = ap (λ (x : Record). x .kind) (i .same) in
     sym (ap (λ (x : Record). x .realm) (i .same)) ∙ rw (k, none) refl
 

@@ -1,6 +1,6 @@
 -- Contracts of the crate's own functions: what a scan has seen of the slots so far, and one slot changed.
 use mathlib.Core.Path.{_≡_}
-use mathlib.Core.Bool.{true}
+use mathlib.Core.Bool.{true, not}
 use mathlib.Core.List.{List, []}
 use Prim.Native.Nat.{ℕ, _+_}
 use lib.Dec.{eqb}
@@ -10,6 +10,7 @@ use Rattle.words.specs.Said.{Said, done, refused, left}
 use Rattle.words.specs.Number.{part}
 use Rattle.words.specs.Writing.{over}
 use Rattle.claims.specs.Types.{lacks}
+use Rattle.claims.specs.Rule.{conflict}
 use Rattle.claims.specs.declared.claim.Claim.{Claim}
 use Rattle.table.specs.Table.{put}
 use Rattle.table.specs.Layout.{width, slotOf, slotBytes, slotsIn, tableOf, bytesOf}
@@ -29,6 +30,11 @@ pub record Passes (seen : Seen) (i n : ℕ) (slot : Slot) (claim : Claim) (r : S
   pub formed : r .formed ≡ seen .formed
   pub conflicts : r .conflicts ≡ (if isInTheWay claim slot then seen .conflicts + 1 else seen .conflicts)
   pub free : r .free ≡ (if isFree slot then (if eqb (seen .free) n then i else seen .free) else seen .free)
+
+pub record PassesToken (seen : Seen) (held claim : Claim) (r : Seen) : Type 0 where
+  pub formed : r .formed ≡ seen .formed
+  pub conflicts : r .conflicts ≡ (if not (eqb (conflict held claim) 0) then seen .conflicts + 1 else seen .conflicts)
+  pub free : r .free ≡ seen .free
 
 -- what was seen of some slots
 pub record Saw (slots : List Slot) (claim : Claim) (r : Seen) : Type 0 where

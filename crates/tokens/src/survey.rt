@@ -11,12 +11,12 @@ use table::read_slot;
 use words::number64;
 ghost use mathlib.Core.Path.{_≡_};
 ghost use mathlib.Core.Bool.{true};
-ghost use Prim.Native.Nat.{_+_, _≤_};
+ghost use Prim.Native.Nat.{_≤_};
 ghost use lib.Dec.{eqb};
 ghost use lib.ListN.{length};
 ghost use Rattle.words.specs.Test.{if_then_else_};
 ghost use Rattle.table.specs.Form.{isLength};
-ghost use Rattle.tokens.specs.Scan.{Passes, SurveysSlots, Surveys};
+ghost use Rattle.tokens.specs.Scan.{PassesToken, Passes, SurveysSlots, Surveys};
 
 // Conflicts are counted; the free place is how many slots there are where none is free.
 pub(crate) struct Seen {
@@ -25,11 +25,23 @@ pub(crate) struct Seen {
     pub free: usize,
 }
 
-fn one_more(n: usize, test: bool) -> usize
-    requires { ⌜ n ≤ 1024 ⌝ }
-    ensures { λ r. ⌜ r ≡ (if test then n + 1 else n) ⌝ }
+// A token's slot more. What was seen is made anew in every arm: so it stays in registers.
+fn pass_token(seen: Seen, held: Claim, claim: Claim) -> Seen
+    requires { ⌜ seen .conflicts ≤ 1024 ⌝ }
+    ensures { λ r. ⌜ PassesToken seen held claim r ⌝ }
 {
-    if test { n + 1 } else { n }
+    if conflict(held, claim) == 0 {
+        return Seen {
+            formed: seen.formed,
+            conflicts: seen.conflicts,
+            free: seen.free,
+        };
+    }
+    Seen {
+        formed: seen.formed,
+        conflicts: seen.conflicts + 1,
+        free: seen.free,
+    }
 }
 
 // The slot at i of n is free, and the lowest one where none is before it.
@@ -39,7 +51,7 @@ fn lowest(free: usize, i: usize, n: usize) -> usize
     if free == n { i } else { free }
 }
 
-// One slot more, the one at i of n. What was seen is made anew in both arms: so it stays in registers.
+// One slot more, the one at i of n.
 fn pass(seen: Seen, i: usize, n: usize, slot: Slot, claim: Claim) -> Seen
     requires { ⌜ seen .conflicts ≤ 1024 ⌝ }
     ensures { λ r. ⌜ Passes seen i n slot claim r ⌝ }
@@ -53,11 +65,7 @@ fn pass(seen: Seen, i: usize, n: usize, slot: Slot, claim: Claim) -> Seen
         Slot::Held {
             number: _,
             claim: held,
-        } => Seen {
-            formed: seen.formed,
-            conflicts: one_more(seen.conflicts, conflict(held, claim) != 0),
-            free: seen.free,
-        },
+        } => pass_token(seen, held, claim),
     }
 }
 

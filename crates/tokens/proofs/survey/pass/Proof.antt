@@ -13,6 +13,5 @@ pass-spec =
     (λ c κs. search needs)
     (λ c. search needs)
     (λ c κs. search needs)
-    (λ c κs. search needs)
     (λ c. record { formed = refl; conflicts = rw (c .before .enum-told .given .1) refl; free = c .lowest .ensures ∙ rw (c .before .enum-told .given .1) refl })
-    (λ c. record { formed = refl; conflicts = c .one-more .ensures ∙ rw (c .before .conflict .ensures .answer, c .before .before .before .slot .given .1) refl; free = rw (c .before .before .before .slot .given .1) refl }))
+    (λ c. record { formed = c .pass-token .ensures .formed; conflicts = c .pass-token .ensures .conflicts ∙ rw (c .before .before .slot .given .1) refl; free = c .pass-token .ensures .free ∙ rw (c .before .before .slot .given .1) refl }))

@@ -4,7 +4,7 @@ use borrow.Author.Needs.{needs}
 use Rattle.list.specs.Reading.{whenWhole}
 use Rattle.list.specs.Fault.{fault}
 use Rattle.list.specs.Walking.{heard, refusedOr}
-use Rattle.list.proofs.Tails.{within-tail, nowhere}
+use Rattle.list.proofs.Tails.{is, within-tail, unplaced}
 use Rattle.list.proofs.walk.Walk.hear.Statement.{statement}
 use Rattle.list.proofs.walk.Walk.hear.Tie as tie
 
@@ -18,7 +18,7 @@ hear-spec =
     (λ c. search needs)
     (λ c. search needs)
     (λ c. search needs)
-    (λ c κs. let q = sym (c .before .before .before .read-record .ensures .answer) ∙ c .before .r .given .1 in (omega (arith, within-tail (c .before .before .before .before .before .args .tail .now) (c .before .r .given .0 .0) q), nowhere (c .before .before .before .before .before .args .tail .now) (c .before .r .given .0 .0) q))
+    (λ c κs. let q = sym (c .before .before .before .read-record .ensures .answer) ∙ c .before .r .given .1 in (omega (arith, within-tail (c .before .before .before .before .before .args .tail .now) (c .before .r .given .0 .0) q), unplaced (c .before .before .before .before .before .args .tail .now) (c .before .r .given .0 .0) (is (c .before .before .before .before .before .args .tail .now) (c .before .r .given .0 .0) q)))
     (λ c. simp (← c .before .before .read-record .ensures .answer, c .enum-told .given .1))
     (λ c. simp (← c .before .before .read-record .ensures .answer, c .enum-told2 .given .1))
     (λ c. simp (← c .before .before .read-record .ensures .answer, c .enum-told3 .given .1))
