@@ -33,14 +33,15 @@ pub struct Session {
     pub over: bool,
 }
 
-fn is_comment(first: &[u8]) -> bool {
-    if first.len() == 0 {
+// A line whose first word is this is passed over: there is none, or it begins with '#'.
+fn is_passed_over(word: &[u8]) -> bool {
+    if word.len() == 0 {
         return true;
     }
-    first[0] == HASH
+    word[0] == HASH
 }
 
-// The commands that leave all that as it is.
+// The commands that leave what is remembered as it is.
 fn call(
     command: Command,
     line: &[u8],
@@ -68,7 +69,7 @@ fn call(
     }
 }
 
-// The commands that set what the others go by.
+// The commands that set what the others go by, or one of the others.
 fn set(
     command: Command,
     line: &[u8],
@@ -103,7 +104,7 @@ fn answer(
     groups: &mut [u32],
 ) -> Memory {
     let name = word(line, 0);
-    if is_comment(name) {
+    if is_passed_over(name) {
         return memory;
     }
     let command = command_of(name);
