@@ -45,27 +45,22 @@ fn is_hex(word: &[u8]) -> bool {
     is_dash(word) | are_bytes(word, word.len() / 2)
 }
 
-// The bytes that a word says, and answers how many: '-' says none.
-fn take(word: &[u8], buffer: &mut [u8]) -> usize {
+// The bytes that a word says become a buffer's first; its length is then theirs, and stays where they are not understood. '-' says none.
+fn take(word: &[u8], buffer: &mut [u8], length: usize) -> usize {
+    if !is_hex(word) {
+        error(b"BYTES are hex digits, two for each, or -");
+        return length;
+    }
     let n = least(word.len() / 2, buffer.len());
     write_bytes(word, &mut buffer[0..n]);
-    n
-}
-
-fn table_bytes(bytes: &[u8], memory: Memory, table: &mut [u8]) -> Memory {
-    if !is_hex(bytes) {
-        error(b"BYTES are hex digits, two for each, or -");
-        return memory;
-    }
-    let n = take(bytes, table);
     done_with(n as u64);
-    memory.with_table(n)
+    n
 }
 
 pub(crate) fn table(line: &[u8], memory: Memory, table: &mut [u8]) -> Memory {
     let what = word(line, 1);
     if same(what, b"hex") {
-        return table_bytes(word(line, 2), memory, table);
+        return memory.with_table(take(word(line, 2), table, memory.table));
     }
     let slots = amount(what, MOST_SLOTS);
     if !(slots.fits & (count(line) == 2)) {
@@ -79,14 +74,7 @@ pub(crate) fn table(line: &[u8], memory: Memory, table: &mut [u8]) -> Memory {
 }
 
 pub(crate) fn list(line: &[u8], memory: Memory, list: &mut [u8]) -> Memory {
-    let bytes = word(line, 1);
-    if !is_hex(bytes) {
-        error(b"BYTES are hex digits, two for each, or -");
-        return memory;
-    }
-    let n = take(bytes, list);
-    done_with(n as u64);
-    memory.with_list(n)
+    memory.with_list(take(word(line, 1), list, memory.list))
 }
 
 // The first bytes of the output buffer become the list.

@@ -14,11 +14,11 @@ use Rattle.edit.specs.declared.entry.Entry.{Entry as TheEntry}
 use Rattle.claims.specs.declared.claim.Claim.{Claim as TheClaim}
 use Rattle.table.specs.Reply.{replySays}
 use Rattle.table.specs.declared.reply.Reply.{Reply}
-use Rattle.access.specs.Access.{accessOf as theAccess}
+use Rattle.access.specs.Access.{accessOf}
 use Rattle.desk.specs.Grant.{Grants as GrantsToken}
 use Rattle.desk.specs.Ask.{Asks as AsksTable}
 use Rattle.mastarik.specs.Answer.{answerFor, answerOf}
-use Rattle.mastarik.specs.Given.{callerOf, fileOf, guardOf, entryOf, claimOf, accessOf}
+use Rattle.mastarik.specs.Given.{callerOf, fileOf, guardOf, entryOf, claimOf, accessFor}
 use Rattle.mastarik.specs.Lists.{decidedFor, GivesRights, Puts, Drops}
 use Rattle.mastarik.specs.Tables.{Asks, Grants}
 use Rattle.mastarik.specs.declared.answer.Answer.{Answer}
@@ -50,8 +50,8 @@ module _ {r : Answer} {list : List ℕ} where
 
 -- the caller, the file and its guard
 module _ {list groups : List ℕ} (caller : Caller) (file : File) {who : TheCaller} {what : TheFile} {guard : Guard} (c : who ≡ callerOf caller) (f : what ≡ fileOf file) (g : guard ≡ guardOf file) where
-  judged-by : theAccess list groups who what guard ≡ accessOf list groups caller file
-  unfolding accessOf
+  judged-by : accessOf list groups who what guard ≡ accessFor list groups caller file
+  unfolding accessFor
   judged-by = rw (c, f, g) refl
 
   module _ {r : Answer} where
@@ -60,14 +60,14 @@ module _ {list groups : List ℕ} (caller : Caller) (file : File) {who : TheCall
     gives said p = record { answer = said ∙ rw (p .answer, p .start, p .size, c, f, g) refl }
 
     module _ {bytes : List ℕ} {claim : Claim} {t : TheClaim} (given : t ≡ claimOf claim) {after : List ℕ} {reply : Reply} (said : r ≡ answerOf (replySays reply)) where
-      pub asks : {out : List ℕ} → AsksTable bytes t (theAccess list groups who what guard) out reply after → Asks bytes claim (accessOf list groups caller file) out r after
-      asks {out} p = go (subst (λ x. AsksTable bytes x (accessOf list groups caller file) out reply after) given (subst (λ x. AsksTable bytes t x out reply after) judged-by p))
+      pub asks : {out : List ℕ} → AsksTable bytes t (accessOf list groups who what guard) out reply after → Asks bytes claim (accessFor list groups caller file) out r after
+      asks {out} p = go (subst (λ x. AsksTable bytes x (accessFor list groups caller file) out reply after) given (subst (λ x. AsksTable bytes t x out reply after) judged-by p))
         where
-          go : AsksTable bytes (claimOf claim) (accessOf list groups caller file) out reply after → Asks bytes claim (accessOf list groups caller file) out r after
+          go : AsksTable bytes (claimOf claim) (accessFor list groups caller file) out reply after → Asks bytes claim (accessFor list groups caller file) out r after
           go q = record { answer = said ∙ ap answerOf (q .answer); out-after = q .out-after }
 
-      pub grants : GrantsToken bytes t (theAccess list groups who what guard) reply after → Grants bytes claim (accessOf list groups caller file) r after
-      grants p = go (subst (λ x. GrantsToken bytes x (accessOf list groups caller file) reply after) given (subst (λ x. GrantsToken bytes t x reply after) judged-by p))
+      pub grants : GrantsToken bytes t (accessOf list groups who what guard) reply after → Grants bytes claim (accessFor list groups caller file) r after
+      grants p = go (subst (λ x. GrantsToken bytes x (accessFor list groups caller file) reply after) given (subst (λ x. GrantsToken bytes t x reply after) judged-by p))
         where
-          go : GrantsToken bytes (claimOf claim) (accessOf list groups caller file) reply after → Grants bytes claim (accessOf list groups caller file) r after
+          go : GrantsToken bytes (claimOf claim) (accessFor list groups caller file) reply after → Grants bytes claim (accessFor list groups caller file) r after
           go q = record { answer = said ∙ ap answerOf (q .answer); table-after = q .table-after }

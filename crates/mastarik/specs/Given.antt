@@ -12,7 +12,7 @@ use Rattle.rights.specs.declared.guard.Guard.{Guard}
 use Rattle.rights.specs.declared.guard.Guard.the-variants.{List as ByList, Mode}
 use Rattle.edit.specs.declared.entry.Entry.{Entry as TheEntry}
 use Rattle.claims.specs.declared.claim.Claim.{Claim as TheClaim}
-use Rattle.access.specs.Access.{Access, accessOf as theAccess}
+use Rattle.access.specs.Access.{Access, accessOf}
 use Rattle.mastarik.specs.declared.given.Caller.{Caller}
 use Rattle.mastarik.specs.declared.given.Claim.{Claim}
 use Rattle.mastarik.specs.declared.given.Entry.{Entry}
@@ -39,5 +39,6 @@ claimOf claim = record {
   last = claim .last;
 }
 
-unfoldable pub accessOf : List ℕ → List ℕ → Caller → File → Access
-accessOf list groups caller file = theAccess list groups (callerOf caller) (fileOf file) (guardOf file)
+-- what ask and grant are judged by
+unfoldable pub accessFor : List ℕ → List ℕ → Caller → File → Access
+accessFor list groups caller file = accessOf list groups (callerOf caller) (fileOf file) (guardOf file)

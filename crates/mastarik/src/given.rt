@@ -14,7 +14,7 @@ pub struct Caller {
     pub group: u32,
 }
 
-// The local realm and the mode count only where it is not guarded by a list.
+// The lent list guards it where `moded`, which is C's `by_mode`, is 0; else the local realm and the mode.
 #[repr(C)]
 pub struct File {
     pub owner: u32,

@@ -9,7 +9,7 @@ use crate::given::caller_of;
 use crate::given::claim_of;
 use crate::given::file_of;
 use crate::given::guard_of;
-ghost use Rattle.mastarik.specs.Given.{accessOf};
+ghost use Rattle.mastarik.specs.Given.{accessFor};
 ghost use Rattle.mastarik.specs.Tables.{Fills, Asks, Grants, Returns, DropsHost, Audits};
 
 #[no_mangle]
@@ -29,7 +29,7 @@ pub extern "C" fn mastarik_ask(
     file: File,
     out: &mut [u8],
 ) -> Answer
-    ensures { λ r. ⌜ Asks (now (table .entry)) claim (accessOf (now (list .entry)) (now (groups .entry)) caller file) (now (out .entry)) r (now (out .exit)) ⌝ }
+    ensures { λ r. ⌜ Asks (now (table .entry)) claim (accessFor (now (list .entry)) (now (groups .entry)) caller file) (now (out .entry)) r (now (out .exit)) ⌝ }
 {
     of_reply(desk::ask(
         table,
@@ -52,7 +52,7 @@ pub extern "C" fn mastarik_grant(
     caller: Caller,
     file: File,
 ) -> Answer
-    ensures { λ r. ⌜ Grants (now (table .entry)) claim (accessOf (now (list .entry)) (now (groups .entry)) caller file) r (now (table .exit)) ⌝ }
+    ensures { λ r. ⌜ Grants (now (table .entry)) claim (accessFor (now (list .entry)) (now (groups .entry)) caller file) r (now (table .exit)) ⌝ }
 {
     of_reply(desk::grant(
         table,
