@@ -10,13 +10,16 @@ use crate::hexes::is_dash;
 use crate::hexes::realm;
 use crate::memory::Memory;
 use crate::memory::least;
+use crate::says::done_with;
 use crate::says::edited;
 use crate::says::error;
 use crate::says::found;
 use crate::says::reply;
-use crate::says::text;
 use crate::says::verdict;
 use crate::spaced::word;
+use crate::texts::Line;
+use crate::texts::text;
+use access::needed_rights;
 use claims::Claim;
 use edit::Entry;
 use edit::drop_entry;
@@ -25,28 +28,36 @@ use evaluate::check_list;
 use rights::decide;
 ghost use Prim.Native.Nat.{_≤_};
 
-pub(crate) fn fill(memory: Memory, table: &mut [u8]) {
+pub(crate) fn fill(memory: Memory, table: &mut [u8]) -> Line {
     let n = least(memory.table, table.len());
-    reply(desk::fill(&mut table[0..n]));
+    reply(desk::fill(&mut table[0..n]))
 }
 
-pub(crate) fn drop_host(line: &[u8], memory: Memory, table: &mut [u8]) {
+pub(crate) fn drop_host(line: &[u8], memory: Memory, table: &mut [u8]) -> Line {
     let host = amount(word(line, 1), MOST_16);
     if !host.fits {
-        error(b"HOST is a number up to 65535");
-        return;
+        return error(b"HOST is a number up to 65535");
     }
     let n = least(memory.table, table.len());
-    reply(desk::drop_host(&mut table[0..n], host.value as u16));
+    reply(desk::drop_host(&mut table[0..n], host.value as u16))
 }
 
-pub(crate) fn audit(memory: Memory, table: &[u8]) {
+pub(crate) fn audit(memory: Memory, table: &[u8]) -> Line {
     let n = least(memory.table, table.len());
     if desk::audit(&table[0..n]) {
-        text(b"yes\n");
-        return;
+        return text(b"yes");
     }
-    text(b"no\n");
+    text(b"no")
+}
+
+// The rights that types need on the file.
+pub(crate) fn needs(line: &[u8], memory: Memory) -> Line {
+    let types = amount(word(line, 1), MOST_16);
+    if !types.fits {
+        return error(b"TYPES is a number up to 65535");
+    }
+    let file = memory.file;
+    done_with(needed_rights(types.value as u16, file.dir) as u64)
 }
 
 // A claim, if the words say one.
@@ -73,10 +84,10 @@ fn request_in(line: &[u8]) -> Request {
     }
 }
 
-fn misspelled_request() {
+fn misspelled_request() -> Line {
     error(
         b"HOST and TYPES are numbers up to 65535, FILE is 24 hex digits, FIRST and LAST are numbers of 64 bits",
-    );
+    )
 }
 
 pub(crate) fn ask(
@@ -86,11 +97,10 @@ pub(crate) fn ask(
     list: &[u8],
     groups: &[u32],
     out: &mut [u8],
-) {
+) -> Line {
     let request = request_in(line);
     if !request.fits {
-        misspelled_request();
-        return;
+        return misspelled_request();
     }
     let t = least(memory.table, table.len());
     let l = least(memory.list, list.len());
@@ -109,14 +119,19 @@ pub(crate) fn ask(
         file,
         guard,
         &mut out[0..o],
-    ));
+    ))
 }
 
-pub(crate) fn grant(line: &[u8], memory: Memory, table: &mut [u8], list: &[u8], groups: &[u32]) {
+pub(crate) fn grant(
+    line: &[u8],
+    memory: Memory,
+    table: &mut [u8],
+    list: &[u8],
+    groups: &[u32],
+) -> Line {
     let request = request_in(line);
     if !request.fits {
-        misspelled_request();
-        return;
+        return misspelled_request();
     }
     let t = least(memory.table, table.len());
     let l = least(memory.list, list.len());
@@ -133,16 +148,15 @@ pub(crate) fn grant(line: &[u8], memory: Memory, table: &mut [u8], list: &[u8], 
         caller,
         file,
         guard,
-    ));
+    ))
 }
 
-pub(crate) fn give_back(line: &[u8], memory: Memory, table: &mut [u8]) {
+pub(crate) fn give_back(line: &[u8], memory: Memory, table: &mut [u8]) -> Line {
     let host = amount(word(line, 1), MOST_16);
     let number = amount(word(line, 2), MOST_64);
     let types = amount(word(line, 3), MOST_16);
     if !(host.fits & number.fits & types.fits) {
-        error(b"HOST and TYPES are numbers up to 65535, NUMBER is one of 64 bits");
-        return;
+        return error(b"HOST and TYPES are numbers up to 65535, NUMBER is one of 64 bits");
     }
     let n = least(memory.table, table.len());
     reply(desk::give_back(
@@ -150,21 +164,21 @@ pub(crate) fn give_back(line: &[u8], memory: Memory, table: &mut [u8]) {
         host.value as u16,
         number.value,
         types.value as u16,
-    ));
+    ))
 }
 
-pub(crate) fn check(memory: Memory, list: &[u8]) {
+pub(crate) fn check(memory: Memory, list: &[u8]) -> Line {
     let n = least(memory.list, list.len());
-    verdict(check_list(&list[0..n]));
+    verdict(check_list(&list[0..n]))
 }
 
-pub(crate) fn rights(memory: Memory, list: &[u8], groups: &[u32]) {
+pub(crate) fn rights(memory: Memory, list: &[u8], groups: &[u32]) -> Line {
     let l = least(memory.list, list.len());
     let g = least(memory.further, groups.len());
     let caller = memory.caller;
     let file = memory.file;
     let guard = memory.guard;
-    found(decide(&list[0..l], &groups[0..g], caller, file, guard));
+    found(decide(&list[0..l], &groups[0..g], caller, file, guard))
 }
 
 // An entry, if the words say one.
@@ -198,33 +212,34 @@ fn item_in(line: &[u8], rights: u64) -> Item
     }
 }
 
-fn misspelled_entry() {
+fn misspelled_entry() -> Line {
     error(
         b"KIND and RIGHTS are numbers up to 255, REALM is 32 hex digits or - where the kind has none, ID is a number of 32 bits",
-    );
+    )
 }
 
-pub(crate) fn put(line: &[u8], memory: Memory, list: &[u8], out: &mut [u8]) {
+pub(crate) fn put(line: &[u8], memory: Memory, list: &[u8], out: &mut [u8]) -> Line {
     let rights = amount(word(line, 4), MOST_8);
     let item = item_in(line, rights.value);
     if !(item.fits & rights.fits) {
-        misspelled_entry();
-        return;
+        return misspelled_entry();
     }
     let l = least(memory.list, list.len());
     let o = least(memory.room, out.len());
     let entry = item.entry;
-    edited(put_entry(&list[0..l], entry, &mut out[0..o]));
+    edited(put_entry(&list[0..l], entry, &mut out[0..o]))
 }
 
-pub(crate) fn unput(line: &[u8], memory: Memory, list: &[u8], out: &mut [u8]) {
-    let item = item_in(line, 0);
-    if !item.fits {
-        misspelled_entry();
-        return;
+// The rights byte of a drop may be given, and is ignored.
+pub(crate) fn unput(line: &[u8], memory: Memory, list: &[u8], out: &mut [u8]) -> Line {
+    let given = word(line, 4);
+    let rights = amount(given, MOST_8);
+    let item = item_in(line, rights.value);
+    if !(item.fits & (rights.fits | (given.len() == 0))) {
+        return misspelled_entry();
     }
     let l = least(memory.list, list.len());
     let o = least(memory.room, out.len());
     let entry = item.entry;
-    edited(drop_entry(&list[0..l], entry, &mut out[0..o]));
+    edited(drop_entry(&list[0..l], entry, &mut out[0..o]))
 }

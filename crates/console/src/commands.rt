@@ -1,4 +1,6 @@
 // The commands by name.
+use crate::spaced::count;
+use crate::spaced::word;
 use check::same;
 
 pub enum Command {
@@ -11,6 +13,10 @@ pub enum Command {
     File,
     Guard,
     Room,
+    Show,
+    Held,
+    Records,
+    Total,
     Fill,
     Drop,
     Audit,
@@ -19,91 +25,68 @@ pub enum Command {
     Return,
     Check,
     Rights,
+    Needs,
     Put,
     Unput,
-    Show,
-    Held,
     Unknown,
 }
 
-// What is set, loaded, saved or shown.
-pub(crate) fn command_of(name: &[u8]) -> Command {
-    if same(name, b"table") {
-        return Command::Table;
+// Which of some words this one is; past the last where it is none of them.
+fn place_among(name: &[u8], names: &[u8]) -> usize {
+    let n = count(names);
+    let mut k = 0;
+    while k < n {
+        if same(name, word(names, k)) {
+            return k;
+        }
+        k += 1;
     }
-    if same(name, b"load") {
-        return Command::Load;
-    }
-    if same(name, b"save") {
-        return Command::Save;
-    }
-    if same(name, b"list") {
-        return Command::List;
-    }
-    if same(name, b"keep") {
-        return Command::Keep;
-    }
-    if same(name, b"caller") {
-        return Command::Caller;
-    }
-    if same(name, b"file") {
-        return Command::File;
-    }
-    if same(name, b"guard") {
-        return Command::Guard;
-    }
-    if same(name, b"room") {
-        return Command::Room;
-    }
-    if same(name, b"show") {
-        return Command::Show;
-    }
-    if same(name, b"held") {
-        return Command::Held;
-    }
-    call(name)
+    n
 }
 
-// The calls.
-fn call(name: &[u8]) -> Command {
-    if same(name, b"fill") {
-        return Command::Fill;
+pub(crate) fn command_of(name: &[u8]) -> Command {
+    numbered(place_among(
+        name,
+        b"table load save list keep caller file guard room show held records total fill drop audit ask grant return check rights needs put unput",
+    ))
+}
+
+// The commands, in the order of their names.
+fn numbered(place: usize) -> Command {
+    match place {
+        0 => Command::Table,
+        1 => Command::Load,
+        2 => Command::Save,
+        3 => Command::List,
+        4 => Command::Keep,
+        5 => Command::Caller,
+        6 => Command::File,
+        7 => Command::Guard,
+        8 => Command::Room,
+        9 => Command::Show,
+        10 => Command::Held,
+        11 => Command::Records,
+        12 => Command::Total,
+        13 => Command::Fill,
+        14 => Command::Drop,
+        15 => Command::Audit,
+        16 => Command::Ask,
+        17 => Command::Grant,
+        18 => Command::Return,
+        19 => Command::Check,
+        20 => Command::Rights,
+        21 => Command::Needs,
+        22 => Command::Put,
+        23 => Command::Unput,
+        _ => Command::Unknown,
     }
-    if same(name, b"drop") {
-        return Command::Drop;
-    }
-    if same(name, b"audit") {
-        return Command::Audit;
-    }
-    if same(name, b"ask") {
-        return Command::Ask;
-    }
-    if same(name, b"grant") {
-        return Command::Grant;
-    }
-    if same(name, b"return") {
-        return Command::Return;
-    }
-    if same(name, b"check") {
-        return Command::Check;
-    }
-    if same(name, b"rights") {
-        return Command::Rights;
-    }
-    if same(name, b"put") {
-        return Command::Put;
-    }
-    if same(name, b"unput") {
-        return Command::Unput;
-    }
-    Command::Unknown
 }
 
 // The fewest words of a command's line, its name among them.
 fn fewest(command: Command) -> usize {
     match command {
         Command::Table | Command::Load | Command::Save | Command::List | Command::Keep => 2,
-        Command::Guard | Command::Room | Command::Drop | Command::Show => 2,
+        Command::Guard | Command::Room | Command::Drop | Command::Show | Command::Needs => 2,
         Command::Caller | Command::File | Command::Return | Command::Unput => 4,
         Command::Put => 5,
         Command::Ask | Command::Grant => 6,
@@ -111,10 +94,11 @@ fn fewest(command: Command) -> usize {
     }
 }
 
-// How many more there may be: `table hex BYTES`, `guard mode REALM MODE`, `show out LENGTH`, a caller's further groups.
+// How many more there may be: `table hex BYTES`, `guard mode REALM MODE`, `show out LENGTH`, a caller's further groups, the
+// rights of a drop.
 fn optional(command: Command) -> usize {
     match command {
-        Command::Table | Command::Show => 1,
+        Command::Table | Command::Show | Command::Unput => 1,
         Command::Guard => 2,
         Command::Caller => 40,
         Command::Unknown => 16384,

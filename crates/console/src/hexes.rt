@@ -1,9 +1,9 @@
 // Bytes as hex digits, read and written.
 use crate::memory::least;
-use crate::says::text;
+use crate::texts::write;
 use claims::FileId;
 use words::Realm;
-ghost use Prim.Native.Nat.{_+_, _≤_};
+ghost use Prim.Native.Nat.{_+_, _/_, _≤_, _<_};
 ghost use lib.ListN.{length};
 
 // A hex digit's number; 16 for what is none.
@@ -57,6 +57,13 @@ pub(crate) fn is_dash(word: &[u8]) -> bool {
     word[0] == 45
 }
 
+// The byte of two hex digits, after i others.
+fn byte_at(word: &[u8], i: usize) -> u8
+    requires { ⌜ i < length (now word) / 2 ⌝ }
+{
+    nibble(word[i * 2]) % 16 * 16 + nibble(word[i * 2 + 1]) % 16
+}
+
 // The bytes of hex digits, as many as there is room for.
 pub(crate) fn write_bytes(word: &[u8], out: &mut [u8]) {
     let mut i = 0;
@@ -64,7 +71,7 @@ pub(crate) fn write_bytes(word: &[u8], out: &mut [u8]) {
         if word.len() / 2 <= i {
             return;
         }
-        out[i] = nibble(word[i * 2]) % 16 * 16 + nibble(word[i * 2 + 1]) % 16;
+        out[i] = byte_at(word, i);
         i += 1;
     }
 }
@@ -129,13 +136,13 @@ fn spell(bytes: &[u8], from: usize, piece: &mut [u8]) -> usize
 // The first letters of a piece.
 fn first(piece: &[u8], n: usize) {
     let n = least(n, piece.len());
-    text(&piece[0..n]);
+    write(&piece[0..n]);
 }
 
 // The bytes in hex, and '-' where there are none.
-pub(crate) fn show(bytes: &[u8]) {
+pub(crate) fn print(bytes: &[u8]) {
     if bytes.len() == 0 {
-        text(b"-\n");
+        write(b"-");
         return;
     }
     let mut piece = io::buffer();
@@ -148,5 +155,25 @@ pub(crate) fn show(bytes: &[u8]) {
         first(&piece, n * 2);
         at += n;
     }
-    text(b"\n");
+}
+
+// These letters are the bytes in hex, or '-' where there are none.
+pub(crate) fn is_spelled(bytes: &[u8], word: &[u8]) -> bool {
+    if bytes.len() == 0 {
+        return is_dash(word);
+    }
+    if !are_bytes(word, bytes.len()) {
+        return false;
+    }
+    let mut i = 0;
+    while i < bytes.len() {
+        if word.len() / 2 <= i {
+            return false;
+        }
+        if byte_at(word, i) != bytes[i] {
+            return false;
+        }
+        i += 1;
+    }
+    true
 }

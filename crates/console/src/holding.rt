@@ -1,13 +1,11 @@
 // The tokens of a table in words.
 use crate::memory::Memory;
 use crate::memory::least;
-use crate::says::counted;
 use crate::says::done_with;
 use crate::says::refused;
-use crate::says::text;
+use crate::texts::Line;
+use crate::texts::text;
 use claims::Claim;
-use claims::FileId;
-use libc::STDOUT_FILENO;
 use table::Slot;
 use table::WIDTH;
 use table::read_slot;
@@ -15,41 +13,49 @@ use table::refusal::NOT_WELL_FORMED;
 use table::well_formed;
 ghost use Prim.Native.Nat.{_≤_};
 
-fn named(types: u16, bit: u16, name: &[u8])
+// With a type's name, if it is among the types.
+fn named(line: Line, types: u16, bit: u16, name: &[u8]) -> Line
     requires { ⌜ 1 ≤ bit ⌝ }
 {
-    if types / bit % 2 == 1 {
-        text(b", ");
-        text(name);
+    if types / bit % 2 == 0 {
+        return line;
     }
+    line.with(b", ").with(name)
 }
 
-fn types(types: u16) {
-    named(types, 1, b"data read");
-    named(types, 2, b"data write");
-    named(types, 4, b"status read");
-    named(types, 8, b"status write");
-    named(types, 16, b"lock read");
-    named(types, 32, b"lock write");
-    named(types, 64, b"open shared");
-    named(types, 128, b"open exclusive");
-}
-
-fn file(file: FileId) {
-    text(b", file ");
-    io::print_hex(STDOUT_FILENO, file.hi, 16);
-    io::print_hex(STDOUT_FILENO, file.lo as u64, 8);
+fn with_types(line: Line, types: u16) -> Line {
+    let data = named(named(line, types, 1, b"data read"), types, 2, b"data write");
+    let status = named(
+        named(data, types, 4, b"status read"),
+        types,
+        8,
+        b"status write",
+    );
+    let lock = named(
+        named(status, types, 16, b"lock read"),
+        types,
+        32,
+        b"lock write",
+    );
+    named(
+        named(lock, types, 64, b"open shared"),
+        types,
+        128,
+        b"open exclusive",
+    )
 }
 
 fn token(number: u64, claim: Claim) {
-    counted(b"number ", number);
-    counted(b", host ", claim.host as u64);
-    types(claim.types);
-    let id = claim.file;
-    file(id);
-    counted(b", bytes ", claim.first);
-    counted(b" to ", claim.last);
-    text(b"\n");
+    let head = text(b"number ").counted(b"", number)
+        .counted(b", host ", claim.host as u64);
+    let file = claim.file;
+    with_types(head, claim.types)
+        .with(b", file ")
+        .hex(file.hi, 16)
+        .hex(file.lo as u64, 8)
+        .counted(b", bytes ", claim.first)
+        .counted(b" to ", claim.last)
+        .print_line();
 }
 
 // Answers how many tokens a slot holds.
@@ -65,10 +71,9 @@ fn slot(slot: Slot) -> u64
     }
 }
 
-fn all(table: &[u8]) {
+fn all(table: &[u8]) -> Line {
     if !well_formed(table) {
-        refused(NOT_WELL_FORMED);
-        return;
+        return refused(NOT_WELL_FORMED);
     }
     let mut at = WIDTH;
     let mut n = 0u64;
@@ -79,10 +84,10 @@ fn all(table: &[u8]) {
         n += slot(read_slot(&table[at..at + WIDTH]));
         at += WIDTH;
     }
-    done_with(n);
+    done_with(n)
 }
 
-pub(crate) fn held(memory: Memory, table: &[u8]) {
+pub(crate) fn held(memory: Memory, table: &[u8]) -> Line {
     let n = least(memory.table, table.len());
-    all(&table[0..n]);
+    all(&table[0..n])
 }

@@ -3,35 +3,26 @@ use crate::calls;
 use crate::commands::Command;
 use crate::commands::command_of;
 use crate::commands::takes;
+use crate::expecting::expect;
+use crate::expecting::tell;
+use crate::expecting::total;
 use crate::files;
 use crate::holding::held;
+use crate::listing::records;
 use crate::memory::Memory;
 use crate::memory::least;
 use crate::memory::start;
+use crate::reading::Typed;
+use crate::reading::next_line;
 use crate::says::error;
 use crate::setting;
 use crate::showing::show;
 use crate::spaced::count;
 use crate::spaced::word;
-use libc::STDIN_FILENO;
-
-const NEWLINE: u8 = 10;
+use crate::texts::Line;
+use check::same;
 
 const HASH: u8 = 35;
-
-// How much of a line is there, and whether there was more than fits.
-pub struct Typed {
-    pub length: usize,
-    pub long: bool,
-}
-
-// Between two reads: what is remembered, and the line so far.
-pub struct Session {
-    pub memory: Memory,
-    pub typed: Typed,
-    // Nothing more will be read.
-    pub over: bool,
-}
 
 // A line whose first word is this is passed over: there is none, or it begins with '#'.
 fn is_passed_over(word: &[u8]) -> bool {
@@ -41,7 +32,7 @@ fn is_passed_over(word: &[u8]) -> bool {
     word[0] == HASH
 }
 
-// The commands that leave what is remembered as it is.
+// The commands that leave what the others go by as it is.
 fn call(
     command: Command,
     line: &[u8],
@@ -50,7 +41,7 @@ fn call(
     list: &[u8],
     out: &mut [u8],
     groups: &[u32],
-) {
+) -> Line {
     match command {
         Command::Fill => calls::fill(memory, table),
         Command::Drop => calls::drop_host(line, memory, table),
@@ -60,11 +51,13 @@ fn call(
         Command::Return => calls::give_back(line, memory, table),
         Command::Check => calls::check(memory, list),
         Command::Rights => calls::rights(memory, list, groups),
+        Command::Needs => calls::needs(line, memory),
         Command::Put => calls::put(line, memory, list, out),
         Command::Unput => calls::unput(line, memory, list, out),
-        Command::Show => show(line, memory, table, list, out),
         Command::Held => held(memory, table),
+        Command::Records => records(memory, list),
         Command::Save => files::save(line, memory, table),
+        Command::Total => total(memory),
         _ => error(b"unknown command"),
     }
 }
@@ -88,13 +81,12 @@ fn set(
         Command::File => setting::file(line, memory),
         Command::Guard => setting::guard(line, memory),
         Command::Room => setting::room(line, memory),
-        _ => {
-            call(command, line, memory, table, list, out, groups);
-            memory
-        }
+        Command::Show => show(line, memory),
+        _ => memory.saying(call(command, line, memory, table, list, out, groups)),
     }
 }
 
+// What a line comes to: an answer that is told, an answer that is held against the line, or nothing.
 fn answer(
     line: &[u8],
     memory: Memory,
@@ -107,10 +99,26 @@ fn answer(
     if is_passed_over(name) {
         return memory;
     }
-    let command = command_of(name);
+    if same(name, b"=") {
+        return expect(line, memory, table, list, out);
+    }
+    let next = obey(line, command_of(name), memory, table, list, out, groups);
+    let last = next.answer;
+    tell(last, table, list, out);
+    next
+}
+
+fn obey(
+    line: &[u8],
+    command: Command,
+    memory: Memory,
+    table: &mut [u8],
+    list: &mut [u8],
+    out: &mut [u8],
+    groups: &mut [u32],
+) -> Memory {
     if !takes(command, count(line)) {
-        error(b"wrong number of words");
-        return memory;
+        return memory.saying(error(b"wrong number of words"));
     }
     set(command, line, memory, table, list, out, groups)
 }
@@ -125,106 +133,17 @@ fn finish(
     out: &mut [u8],
     groups: &mut [u32],
 ) -> Memory {
+    let next = memory.turned();
     if typed.long {
-        error(b"a line has at most 16384 characters");
-        return memory;
+        let words = error(b"a line has at most 16384 characters");
+        words.print_line();
+        return next.saying(words);
     }
     let n = least(typed.length, line.len());
-    answer(&line[0..n], memory, table, list, out, groups)
+    answer(&line[0..n], next, table, list, out, groups)
 }
 
-// One character more.
-fn take(letter: u8, typed: Typed, line: &mut [u8]) -> Typed {
-    let n = typed.length;
-    if line.len() <= n {
-        return Typed {
-            length: n,
-            long: true,
-        };
-    }
-    line[n] = letter;
-    Typed {
-        length: n + 1,
-        long: typed.long,
-    }
-}
-
-fn none() -> Typed {
-    Typed {
-        length: 0,
-        long: false,
-    }
-}
-
-// One character more: a line that it ends is answered.
-fn step(
-    letter: u8,
-    session: Session,
-    line: &mut [u8],
-    table: &mut [u8],
-    list: &mut [u8],
-    out: &mut [u8],
-    groups: &mut [u32],
-) -> Session {
-    let memory = session.memory;
-    let typed = session.typed;
-    if letter == NEWLINE {
-        let next = finish(typed, line, memory, table, list, out, groups);
-        return Session {
-            memory: next,
-            typed: none(),
-            over: false,
-        };
-    }
-    let next = take(letter, typed, line);
-    Session {
-        memory: memory,
-        typed: next,
-        over: false,
-    }
-}
-
-// What was read at once.
-fn take_all(
-    input: &[u8],
-    session: Session,
-    line: &mut [u8],
-    table: &mut [u8],
-    list: &mut [u8],
-    out: &mut [u8],
-    groups: &mut [u32],
-) -> Session {
-    let mut next = session;
-    let mut i = 0;
-    while i < input.len() {
-        let letter = input[i];
-        i += 1;
-        next = step(letter, next, line, table, list, out, groups);
-    }
-    next
-}
-
-// One read; where nothing comes, the line that has no end is the last.
-fn turn(
-    session: Session,
-    line: &mut [u8],
-    table: &mut [u8],
-    list: &mut [u8],
-    out: &mut [u8],
-    groups: &mut [u32],
-) -> Session {
-    let mut input = io::buffer();
-    let got = libc::read(STDIN_FILENO, &mut input);
-    let n = io::count(got, &input);
-    if n == 0 {
-        let mut last = step(NEWLINE, session, line, table, list, out, groups);
-        last.over = true;
-        return last;
-    }
-    take_all(&input[..n], session, line, table, list, out, groups)
-}
-
-// To the end of the input; a proved loop ends, so this one counts its turns down from a number that no run uses up.
+// To the end of the input; no input has so many lines.
 pub(crate) fn serve(
     line: &mut [u8],
     table: &mut [u8],
@@ -232,17 +151,14 @@ pub(crate) fn serve(
     out: &mut [u8],
     groups: &mut [u32],
 ) {
-    let mut session = Session {
-        memory: start(),
-        typed: none(),
-        over: false,
-    };
+    let mut memory = start();
     let mut turns = u64::MAX;
     while turns > 0 {
-        if session.over {
+        turns -= 1;
+        let typed = next_line(line);
+        memory = finish(typed, line, memory, table, list, out, groups);
+        if typed.last {
             return;
         }
-        turns -= 1;
-        session = turn(session, line, table, list, out, groups);
     }
 }

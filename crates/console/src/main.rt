@@ -2,15 +2,19 @@
 mod amounts;
 mod calls;
 mod commands;
+mod expecting;
 mod files;
 mod hexes;
 mod holding;
 mod lines;
+mod listing;
 mod memory;
+mod reading;
 mod says;
 mod setting;
 mod showing;
 mod spaced;
+mod texts;
 
 fn main() {
     let mut line = [0u8; 16384];

@@ -1,50 +1,35 @@
-// The answers, a line each.
+// What the calls say, in the words of an answer.
+use crate::texts::Line;
+use crate::texts::text;
 use edit::Edited;
 use evaluate::Verdict;
-use libc::STDOUT_FILENO;
 use rights::Answer;
 use rights::Found;
 use table::Reply;
 
-pub(crate) fn text(words: &[u8]) {
-    io::write_all(STDOUT_FILENO, words);
+pub(crate) fn done() -> Line {
+    text(b"done")
 }
 
-// Some words, then a number.
-pub(crate) fn counted(words: &[u8], n: u64) {
-    text(words);
-    io::print_decimal(STDOUT_FILENO, n);
-}
-
-pub(crate) fn done() {
-    text(b"done\n");
-}
-
-pub(crate) fn done_with(n: u64) {
-    counted(b"done ", n);
-    text(b"\n");
+pub(crate) fn done_with(n: u64) -> Line {
+    text(b"done ").counted(b"", n)
 }
 
 // A line that is not understood.
-pub(crate) fn error(why: &[u8]) {
-    text(b"error ");
-    text(why);
-    text(b"\n");
+pub(crate) fn error(why: &[u8]) -> Line {
+    text(b"error ").with(why)
 }
 
-pub(crate) fn refused(number: u8) {
-    counted(b"refused ", number as u64);
-    text(b"\n");
+pub(crate) fn refused(number: u8) -> Line {
+    text(b"refused ").counted(b"", number as u64)
 }
 
 // With the place, or the true count.
-fn refused_with(number: u8, value: u64) {
-    counted(b"refused ", number as u64);
-    counted(b" ", value);
-    text(b"\n");
+pub(crate) fn refused_with(number: u8, value: u64) -> Line {
+    refused(number).counted(b" ", value)
 }
 
-pub(crate) fn reply(reply: Reply) {
+pub(crate) fn reply(reply: Reply) -> Line {
     match reply {
         Reply::Done => done(),
         Reply::Value(n) => done_with(n),
@@ -53,14 +38,14 @@ pub(crate) fn reply(reply: Reply) {
     }
 }
 
-pub(crate) fn verdict(verdict: Verdict) {
+pub(crate) fn verdict(verdict: Verdict) -> Line {
     match verdict {
         Verdict::Fine => done(),
         Verdict::Refused { number, place } => refused_with(number, place as u64),
     }
 }
 
-pub(crate) fn edited(edited: Edited) {
+pub(crate) fn edited(edited: Edited) -> Line {
     match edited {
         Edited::Length(n) => done_with(n as u64),
         Edited::Refused { number } => refused(number),
@@ -69,14 +54,13 @@ pub(crate) fn edited(edited: Edited) {
 }
 
 // The rights, and the deciding record by its start and length.
-fn decided(rights: u8, start: usize, size: usize) {
-    counted(b"done ", rights as u64);
-    counted(b" ", start as u64);
-    counted(b" ", size as u64);
-    text(b"\n");
+fn decided(rights: u8, start: usize, size: usize) -> Line {
+    done_with(rights as u64)
+        .counted(b" ", start as u64)
+        .counted(b" ", size as u64)
 }
 
-pub(crate) fn found(found: Found) {
+pub(crate) fn found(found: Found) -> Line {
     let answer = found.answer;
     match answer {
         Answer::Rights(rights) => decided(rights, found.start, found.size),

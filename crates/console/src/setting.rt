@@ -1,4 +1,5 @@
 // What the calls go by: the table's bytes, the list, the caller, the file, its guard, the room for output.
+use crate::amounts::Given;
 use crate::amounts::MOST_32;
 use crate::amounts::amount;
 use crate::hexes::are_bytes;
@@ -13,6 +14,7 @@ use crate::says::done_with;
 use crate::says::error;
 use crate::spaced::count;
 use crate::spaced::word;
+use crate::texts::Line;
 use check::same;
 use evaluate::Caller;
 use evaluate::File;
@@ -45,49 +47,69 @@ fn is_hex(word: &[u8]) -> bool {
     is_dash(word) | are_bytes(word, word.len() / 2)
 }
 
-// The bytes that a word says become a buffer's first; its length is then theirs, and stays where they are not understood. '-' says none.
-fn take(word: &[u8], buffer: &mut [u8], length: usize) -> usize {
+// The bytes that a word says become a buffer's first, and answers how many, if they are understood. '-' says none.
+fn take(word: &[u8], buffer: &mut [u8]) -> Given {
     if !is_hex(word) {
-        error(b"BYTES are hex digits, two for each, or -");
-        return length;
+        return Given {
+            fits: false,
+            value: 0,
+        };
     }
     let n = least(word.len() / 2, buffer.len());
     write_bytes(word, &mut buffer[0..n]);
-    done_with(n as u64);
-    n
+    Given {
+        fits: true,
+        value: n as u64,
+    }
+}
+
+fn misspelled_bytes() -> Line {
+    error(b"BYTES are hex digits, two for each, or -")
+}
+
+fn table_of_bytes(word: &[u8], memory: Memory, table: &mut [u8]) -> Memory {
+    let taken = take(word, table);
+    if !taken.fits {
+        return memory.saying(misspelled_bytes());
+    }
+    memory
+        .with_table(taken.value as usize)
+        .saying(done_with(taken.value))
 }
 
 pub(crate) fn table(line: &[u8], memory: Memory, table: &mut [u8]) -> Memory {
     let what = word(line, 1);
     if same(what, b"hex") {
-        return memory.with_table(take(word(line, 2), table, memory.table));
+        return table_of_bytes(word(line, 2), memory, table);
     }
     let slots = amount(what, MOST_SLOTS);
     if !(slots.fits & (count(line) == 2)) {
-        error(b"table N, up to 1597 slots, or table hex BYTES");
-        return memory;
+        return memory.saying(error(b"table N, up to 1597 slots, or table hex BYTES"));
     }
     let n = slots.value as usize * WIDTH + WIDTH;
     clear(table, n);
-    done_with(n as u64);
-    memory.with_table(n)
+    memory.with_table(n).saying(done_with(n as u64))
 }
 
 pub(crate) fn list(line: &[u8], memory: Memory, list: &mut [u8]) -> Memory {
-    memory.with_list(take(word(line, 1), list, memory.list))
+    let taken = take(word(line, 1), list);
+    if !taken.fits {
+        return memory.saying(misspelled_bytes());
+    }
+    memory
+        .with_list(taken.value as usize)
+        .saying(done_with(taken.value))
 }
 
 // The first bytes of the output buffer become the list.
 pub(crate) fn keep(line: &[u8], memory: Memory, list: &mut [u8], out: &[u8]) -> Memory {
     let length = amount(word(line, 1), MOST_OUT);
     if !length.fits {
-        error(b"LENGTH is a number up to 16384");
-        return memory;
+        return memory.saying(error(b"LENGTH is a number up to 16384"));
     }
     let n = least(length.value as usize, out.len());
     copy(&out[0..n], list);
-    done_with(n as u64);
-    memory.with_list(n)
+    memory.with_list(n).saying(done_with(n as u64))
 }
 
 // Every word from a place on is an id.
@@ -125,8 +147,9 @@ pub(crate) fn caller(line: &[u8], memory: Memory, groups: &mut [u32]) -> Memory 
     let user = amount(word(line, 2), MOST_32);
     let group = amount(word(line, 3), MOST_32);
     if !(are_bytes(name, 16) & user.fits & group.fits & are_ids(line, FURTHER)) {
-        error(b"REALM is 32 hex digits, USER and each GROUP a number of 32 bits");
-        return memory;
+        return memory.saying(error(
+            b"REALM is 32 hex digits, USER and each GROUP a number of 32 bits",
+        ));
     }
     let further = take_ids(line, groups);
     let caller = Caller {
@@ -134,8 +157,7 @@ pub(crate) fn caller(line: &[u8], memory: Memory, groups: &mut [u32]) -> Memory 
         user: user.value as u32,
         group: group.value as u32,
     };
-    done();
-    memory.with_caller(caller, further)
+    memory.with_caller(caller, further).saying(done())
 }
 
 pub(crate) fn file(line: &[u8], memory: Memory) -> Memory {
@@ -144,31 +166,27 @@ pub(crate) fn file(line: &[u8], memory: Memory) -> Memory {
     let what = word(line, 3);
     let dir = same(what, b"dir");
     if !(owner.fits & group.fits & (dir | same(what, b"file"))) {
-        error(b"OWNER and GROUP are numbers of 32 bits, then file or dir");
-        return memory;
+        return memory.saying(error(b"OWNER and GROUP are numbers of 32 bits, then file or dir"));
     }
     let file = File {
         owner: owner.value as u32,
         group: group.value as u32,
         dir: dir,
     };
-    done();
-    memory.with_file(file)
+    memory.with_file(file).saying(done())
 }
 
 fn by_mode(line: &[u8], memory: Memory) -> Memory {
     let name = word(line, 2);
     let mode = amount(word(line, 3), MOST_32);
     if !(are_bytes(name, 16) & mode.fits) {
-        error(b"REALM is 32 hex digits, MODE a number of 32 bits");
-        return memory;
+        return memory.saying(error(b"REALM is 32 hex digits, MODE a number of 32 bits"));
     }
     let guard = Guard::Mode {
         realm: realm(name),
         mode: mode.value as u32,
     };
-    done();
-    memory.with_guard(guard)
+    memory.with_guard(guard).saying(done())
 }
 
 pub(crate) fn guard(line: &[u8], memory: Memory) -> Memory {
@@ -177,19 +195,15 @@ pub(crate) fn guard(line: &[u8], memory: Memory) -> Memory {
         return by_mode(line, memory);
     }
     if !(same(what, b"list") & (count(line) == 2)) {
-        error(b"guard list, or guard mode REALM MODE");
-        return memory;
+        return memory.saying(error(b"guard list, or guard mode REALM MODE"));
     }
-    done();
-    memory.with_guard(Guard::List)
+    memory.with_guard(Guard::List).saying(done())
 }
 
 pub(crate) fn room(line: &[u8], memory: Memory) -> Memory {
     let room = amount(word(line, 1), MOST_OUT);
     if !room.fits {
-        error(b"BYTES is a number up to 16384");
-        return memory;
+        return memory.saying(error(b"BYTES is a number up to 16384"));
     }
-    done();
-    memory.with_room(room.value as usize)
+    memory.with_room(room.value as usize).saying(done())
 }

@@ -48,3 +48,25 @@ pub(crate) fn count(line: &[u8]) -> usize {
     }
     n
 }
+
+// The place after the last letter that is no space, from a place on.
+fn end_from(line: &[u8], from: usize) -> usize
+    requires { ⌜ from ≤ length (now line) ⌝ }
+    ensures { λ r. ⌜ (from ≤ r) × (r ≤ length (now (line .entry))) ⌝ }
+{
+    let mut end = line.len();
+    while from < end {
+        if line[end - 1] != SPACE {
+            return end;
+        }
+        end -= 1;
+    }
+    end
+}
+
+// The line after its first word, without the spaces around it.
+pub(crate) fn rest<'a>(line: &'a [u8]) -> &'a [u8] {
+    let start = place(line, 1);
+    let end = end_from(line, start);
+    &line[start..end]
+}

@@ -1,7 +1,7 @@
-use mathlib.Core.Path.{_≡_}
 use Prim.Native.Nat.{_-_}
-use borrow.Author.Needs.{needs}
 use lib.ListN.{length}
+use mathlib.Core.Path.{_≡_}
+use borrow.Author.Needs.{needs}
 use Rattle.console.proofs.hexes.write_bytes.Statement.{statement}
 use Rattle.console.proofs.hexes.write_bytes.Tie as tie
 
@@ -20,15 +20,7 @@ write-bytes-spec =
     (λ c. search needs)
     (λ c. search needs)
     (λ c. search needs)
-    (λ c. search needs)
-    (λ c. search needs)
     (λ c κs. search needs)
-    (λ c. search needs)
-    (λ c. search needs)
-    (λ c. search needs)
-    (λ c. search needs)
-    (λ c κs. search needs)
-    (λ c. search needs)
     (λ c. search needs)
     (λ c. search needs)
     (λ c. search needs)

@@ -1,6 +1,6 @@
-use Prim.Native.Nat.{_≤_, _-_}
-use borrow.Author.Needs.{needs}
+use Prim.Native.Nat.{_-_, _≤_}
 use lib.ListN.{length}
+use borrow.Author.Needs.{needs}
 use Rattle.console.proofs.holding.all.Statement.{statement}
 use Rattle.console.proofs.holding.all.Tie as tie
 

@@ -1,15 +1,14 @@
+use lib.ListN.{length}
 use mathlib.Core.Path.{_≡_}
 use borrow.Author.Needs.{needs}
-use lib.ListN.{length}
 use Rattle.console.proofs.lines.serve.Statement.{statement}
 use Rattle.console.proofs.lines.serve.Tie as tie
 
 abbrev Inv-loop : tie.InvT-loop
-Inv-loop line₀ table₀ list₀ out₀ groups₀ session₀ turns₀ line table list out groups session turns =
-    (length line ≡ length line₀) × (length table ≡ length table₀) × (length list ≡ length list₀) × (length out ≡ length out₀) × (length groups ≡ length groups₀)
+Inv-loop line₀ table₀ list₀ out₀ groups₀ memory₀ turns₀ line table list out groups memory turns = (length line ≡ length line₀) × (length table ≡ length table₀) × (length list ≡ length list₀) × (length out ≡ length out₀) × (length groups ≡ length groups₀)
 
 abbrev μ-loop : tie.MeasureT-loop
-μ-loop line₀ table₀ list₀ out₀ groups₀ session₀ turns₀ line table list out groups session turns = turns
+μ-loop line₀ table₀ list₀ out₀ groups₀ memory₀ turns₀ line table list out groups memory turns = turns
 
 pub serve-spec : {M : Type 1} → statement M
 serve-spec =
@@ -18,6 +17,9 @@ serve-spec =
     Inv-loop
     μ-loop
     (λ c κs. search needs)
+    (λ c. search needs)
+    (λ c. search needs)
+    (λ c κs. search needs)
     (λ c κs. search needs)
     (λ c. search needs)
     (λ c. search needs)
@@ -25,9 +27,6 @@ serve-spec =
     (λ c. search needs)
     (λ c. search needs)
     (λ c. search needs)
-    (λ c. search needs)
-    (λ c. search needs)
-    (λ c κs. search needs)
     (λ c. search needs)
     (λ c. search needs)
     (λ c. search needs)
