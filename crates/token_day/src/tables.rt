@@ -15,7 +15,7 @@ use tokens::ask;
 use tokens::drop_host;
 use tokens::give_back;
 use tokens::grant;
-use words::write_number64;
+use writes::write_number64;
 
 // Room for three slots; so many bytes are lent.
 pub struct Table {

@@ -1,8 +1,8 @@
 use native.Mathlib.Omega.{arith}
 use borrow.Author.Needs.{needs}
-use Rattle.words.proofs.Written.{stored-halves}
-use Rattle.words.proofs.number.store64.Statement.{statement}
-use Rattle.words.proofs.number.store64.Tie as tie
+use Rattle.writes.proofs.Stored.{stored-halves}
+use Rattle.writes.proofs.number.store64.Statement.{statement}
+use Rattle.writes.proofs.number.store64.Tie as tie
 
 pub store64-spec : {M : Type 1} → statement M
 store64-spec =

@@ -1,9 +1,9 @@
 use native.Mathlib.Omega.{arith}
 use borrow.Author.Needs.{needs}
 use lib.ListN.{length-set}
-use Rattle.words.proofs.Written.{stored-two}
-use Rattle.words.proofs.number.store16.Statement.{statement}
-use Rattle.words.proofs.number.store16.Tie as tie
+use Rattle.writes.proofs.Stored.{stored-two}
+use Rattle.writes.proofs.number.store16.Statement.{statement}
+use Rattle.writes.proofs.number.store16.Tie as tie
 
 pub store16-spec : {M : Type 1} → statement M
 store16-spec =

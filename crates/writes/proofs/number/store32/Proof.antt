@@ -1,9 +1,9 @@
 use native.Mathlib.Omega.{arith}
 use borrow.Author.Needs.{needs}
 use lib.ListN.{length-set}
-use Rattle.words.proofs.Written.{stored}
-use Rattle.words.proofs.number.store32.Statement.{statement}
-use Rattle.words.proofs.number.store32.Tie as tie
+use Rattle.writes.proofs.Stored.{stored}
+use Rattle.writes.proofs.number.store32.Statement.{statement}
+use Rattle.writes.proofs.number.store32.Tie as tie
 
 pub store32-spec : {M : Type 1} → statement M
 store32-spec =
