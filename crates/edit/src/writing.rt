@@ -16,7 +16,7 @@ ghost use Prim.Native.Nat.{_+_, _≤_};
 ghost use lib.ListN.{length};
 ghost use Rattle.words.specs.Writing.{digits, over, written};
 ghost use Rattle.words.specs.Realm.{realmBytes};
-ghost use Rattle.list.specs.Kind.{size};
+ghost use Rattle.records.specs.Kind.{size};
 ghost use Rattle.edit.specs.Entry.{isEntry};
 ghost use Rattle.edit.specs.Spelling.{partOf, spelled};
 ghost use Rattle.edit.specs.Spot.{splice, Writes};
