@@ -8,10 +8,11 @@ use Rattle.words.specs.Said.{done}
 use Rattle.words.specs.Number.{Bytes}
 use Rattle.words.specs.Realm.{realmAt}
 use Rattle.words.proofs.Tests.{Each, each-so, those-append, those-all, those-none, those-pass, any-none, none-any, any-append}
-use Rattle.list.specs.Fault.{noRecord, rises}
+use Rattle.records.specs.Standing.{rises}
+use Rattle.list.specs.Fault.{noRecord}
 use Rattle.list.specs.Checking.{checkSays}
-use Rattle.list.specs.declared.records.Record.{Record}
-use Rattle.list.proofs.Ordered.{rises-asym, Alike, alike-not}
+use Rattle.records.specs.declared.records.Record.{Record}
+use Rattle.records.proofs.Ordered.{rises-asym, Alike, alike-not}
 use Rattle.edit.specs.Entry.{isEntry, recordFor}
 use Rattle.edit.specs.Spelling.{spell}
 use Rattle.edit.specs.Editing.{recordsIn, sameEntry, putIn, dropFrom, putting, dropping, hasEntry}

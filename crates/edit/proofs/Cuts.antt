@@ -14,15 +14,15 @@ use Rattle.words.specs.Number.{Bytes}
 use Rattle.words.specs.Realm.{realmAt}
 use Rattle.words.specs.declared.realm.Realm.{Realm}
 use Rattle.words.proofs.Tests.{Each}
-use Rattle.list.specs.Kind.{size}
-use Rattle.list.specs.Reading.{readOf, whenWhole}
+use Rattle.records.specs.Kind.{size}
+use Rattle.records.specs.Reading.{readOf, whenWhole}
 use Rattle.list.specs.Fault.{noRecord, fault}
 use Rattle.list.specs.Checking.{Found, found, cutFrom, cut, Placed, placed, wholes, records, passed, faultsAfter, checkSays}
-use Rattle.list.specs.declared.records.Record.{Record}
-use Rattle.list.specs.declared.records.Read.{Read}
-use Rattle.list.specs.declared.records.Read.the-variants.{Nothing, Unknown, Short, Whole}
-use Rattle.list.proofs.Bodies.{some-size}
-use Rattle.list.proofs.Tails.{is, within-tail, empty}
+use Rattle.records.specs.declared.records.Record.{Record}
+use Rattle.records.specs.declared.records.Read.{Read}
+use Rattle.records.specs.declared.records.Read.the-variants.{Nothing, Unknown, Short, Whole}
+use Rattle.records.proofs.Bodies.{some-size}
+use Rattle.records.proofs.Tails.{is, within-tail, empty}
 use Rattle.list.proofs.Passed.{no-refusal, passes}
 use Rattle.edit.specs.Spelling.{spelled, spell}
 use Rattle.edit.specs.Editing.{recordsIn}

@@ -10,11 +10,12 @@ use lib.ListN.{length, length-append}
 use Rattle.words.specs.Test.{if_then_else_, anyOf}
 use Rattle.words.specs.declared.realm.Realm.{Realm}
 use Rattle.words.proofs.Tests.{differ, Each, each-so, each-both, those-each, those-pass, any-none, none-any, any-append}
-use Rattle.list.specs.Kind.{body, bodies, bodyOf, wantsMask}
-use Rattle.list.specs.Fault.{rises, lacksControl, Seen, endFault}
-use Rattle.list.specs.declared.records.Record.{Record}
+use Rattle.records.specs.Kind.{body, bodies, bodyOf, wantsMask}
+use Rattle.records.specs.Standing.{rises, lacksControl}
+use Rattle.list.specs.Fault.{Seen, endFault}
+use Rattle.records.specs.declared.records.Record.{Record}
 use Rattle.list.proofs.Once.{kinds-rise}
-use Rattle.list.proofs.Ordered.{Alike, alike-not}
+use Rattle.records.proofs.Ordered.{Alike, alike-not}
 use Rattle.edit.specs.Spelling.{spelled, spell}
 use Rattle.edit.specs.Editing.{sameEntry, putIn, dropFrom}
 use Rattle.edit.proofs.Spelled.{Fitting}

@@ -11,11 +11,12 @@ use Rattle.words.specs.Test.{if_then_else_, anyOf}
 use Rattle.words.specs.Said.{done, refused, andThen}
 use Rattle.words.specs.declared.realm.Realm.{Realm}
 use Rattle.words.proofs.Tests.{Each}
-use Rattle.list.specs.Reading.{whenWhole}
-use Rattle.list.specs.Fault.{rises, isForbidden, fault}
+use Rattle.records.specs.Reading.{whenWhole}
+use Rattle.records.specs.Standing.{rises, isForbidden}
+use Rattle.list.specs.Fault.{fault}
 use Rattle.list.specs.Checking.{found, placed, records, refusedAt, passed, faultsAfter, has}
-use Rattle.list.specs.declared.records.Record.{Record}
-use Rattle.list.specs.declared.records.Read.the-variants.{Whole}
+use Rattle.records.specs.declared.records.Record.{Record}
+use Rattle.records.specs.declared.records.Read.the-variants.{Whole}
 use Rattle.list.proofs.Passed.{Sound}
 use Rattle.edit.specs.Spelling.{spelled, spell}
 use Rattle.edit.proofs.Spelled.{Fitting}

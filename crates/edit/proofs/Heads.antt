@@ -10,12 +10,13 @@ use Rattle.words.specs.Said.{done}
 use Rattle.words.specs.Number.{Bytes}
 use Rattle.words.specs.Realm.{realmAt, lessRealm}
 use Rattle.words.proofs.Tests.{differ, Each, each-both}
-use Rattle.list.specs.Kind.{body, bodyLength, isKnown}
-use Rattle.list.specs.Fault.{begins, noRecord, rises}
+use Rattle.records.specs.Kind.{body, bodyLength, isKnown}
+use Rattle.records.specs.Standing.{rises}
+use Rattle.list.specs.Fault.{begins, noRecord}
 use Rattle.list.specs.Checking.{checkSays}
-use Rattle.list.specs.declared.records.Record.{Record}
-use Rattle.list.proofs.Bodies.{beyond}
-use Rattle.list.proofs.Tails.{is}
+use Rattle.records.specs.declared.records.Record.{Record}
+use Rattle.records.proofs.Bodies.{beyond}
+use Rattle.records.proofs.Tails.{is}
 use Rattle.list.proofs.Passed.{passes, named}
 use Rattle.edit.specs.Entry.{isEntry}
 use Rattle.edit.specs.Spelling.{spelled, spell}

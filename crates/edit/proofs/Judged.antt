@@ -7,9 +7,9 @@ use borrow.Author.Tests.{lt-ltb, le-ltb, le-leb, lt-leb}
 use lib.Dec.{eqb, ltb}
 use Rattle.words.specs.Realm.{realmAt}
 use Rattle.words.specs.declared.realm.Realm.{Realm}
-use Rattle.list.specs.Kind.{wantsMask}
-use Rattle.list.specs.Fault.{isForbidden, lacksControl}
-use Rattle.list.specs.declared.records.Record.{Record}
+use Rattle.records.specs.Kind.{wantsMask}
+use Rattle.records.specs.Standing.{isForbidden, lacksControl}
+use Rattle.records.specs.declared.records.Record.{Record}
 use Rattle.evaluate.specs.Evaluation.{verdictSays}
 use Rattle.evaluate.specs.declared.verdict.Verdict.the-variants.{Fine, Refused}
 use Rattle.edit.specs.Spot.{hasMask, putVerdict, dropVerdict}

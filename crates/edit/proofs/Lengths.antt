@@ -11,9 +11,9 @@ use Rattle.words.specs.Test.{if_then_else_}
 use Rattle.words.specs.Number.{numberAt}
 use Rattle.words.specs.Realm.{realmAt}
 use Rattle.words.proofs.Tests.{and-left, and-right}
-use Rattle.list.specs.Kind.{body, bodies, bodyOf, bodyLength, size, isKnown}
-use Rattle.list.specs.Reading.{recordOf}
-use Rattle.list.proofs.Bodies.{everyBelow, below}
+use Rattle.records.specs.Kind.{body, bodies, bodyOf, bodyLength, size, isKnown}
+use Rattle.records.specs.Reading.{recordOf}
+use Rattle.records.proofs.Bodies.{everyBelow, below}
 use Rattle.edit.specs.Entry.{isEntry, recordFor}
 
 -- what holds of the kinds 2 to 11, by a test over the table

@@ -13,10 +13,10 @@ use Rattle.words.specs.Said.{done}
 use Rattle.words.specs.Number.{Bytes}
 use Rattle.words.specs.Realm.{zeroRealm, realmAt}
 use Rattle.words.proofs.Written.{FitsRealm}
-use Rattle.list.specs.Kind.{bodyOf, size}
+use Rattle.records.specs.Kind.{bodyOf, size}
 use Rattle.list.specs.Fault.{noRecord}
 use Rattle.list.specs.Checking.{checkSays}
-use Rattle.list.specs.declared.records.Record.{Record}
+use Rattle.records.specs.declared.records.Record.{Record}
 use Rattle.list.proofs.Passed.{passes}
 use Rattle.edit.specs.Entry.{isEntry, recordFor}
 use Rattle.edit.specs.Spelling.{spelled, spell}

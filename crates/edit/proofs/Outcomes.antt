@@ -8,9 +8,9 @@ use borrow.Author.Tests.{ltb-false, lt-ltb, not-true}
 use lib.Dec.{ltb}
 use lib.ListN.{length, drop}
 use Rattle.words.specs.Said.{Said, done, refused, andThen, left}
-use Rattle.list.specs.Kind.{size}
+use Rattle.records.specs.Kind.{size}
 use Rattle.list.specs.Checking.{checkSays}
-use Rattle.list.specs.declared.records.Record.{Record}
+use Rattle.records.specs.declared.records.Record.{Record}
 use Rattle.list.proofs.Passed.{passes}
 use Rattle.evaluate.specs.Evaluation.{verdictSays, Checks}
 use Rattle.evaluate.specs.declared.verdict.Verdict.{Verdict}

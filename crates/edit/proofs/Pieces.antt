@@ -12,8 +12,8 @@ use Rattle.words.specs.Number.{within}
 use Rattle.words.specs.Writing.{digits, over, written}
 use Rattle.words.specs.Realm.{realmBytes}
 use Rattle.words.proofs.Written.{over-length, over-next, over-none, set-over, written-all}
-use Rattle.list.specs.Kind.{bodyOf, size}
-use Rattle.list.specs.declared.records.Record.{Record}
+use Rattle.records.specs.Kind.{bodyOf, size}
+use Rattle.records.specs.declared.records.Record.{Record}
 use Rattle.edit.specs.Entry.{isEntry}
 use Rattle.edit.specs.Spelling.{partOf, spelled}
 use Rattle.edit.proofs.Lengths.{rights-is, size-is}

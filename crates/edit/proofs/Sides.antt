@@ -5,9 +5,9 @@ use Prim.Native.Nat.{ℕ, _<_}
 use native.Mathlib.Omega.{arith}
 use borrow.Author.Tests.{lt-ltb}
 use Rattle.words.specs.Test.{if_then_else_}
-use Rattle.list.specs.Fault.{rises}
-use Rattle.list.specs.declared.records.Record.{Record}
-use Rattle.list.proofs.Ordered.{rises-asym}
+use Rattle.records.specs.Standing.{rises}
+use Rattle.records.specs.declared.records.Record.{Record}
+use Rattle.records.proofs.Ordered.{rises-asym}
 use Rattle.edit.specs.Spot.{sideOf}
 use Rattle.edit.specs.declared.spot.Side.{Side}
 use Rattle.edit.specs.declared.spot.Side.the-variants.{Before, Same, After}

@@ -10,10 +10,11 @@ use Rattle.words.specs.Said.{done}
 use Rattle.words.specs.Realm.{realmAt, sameRealm}
 use Rattle.words.specs.declared.realm.Realm.{Realm}
 use Rattle.words.proofs.Tests.{and-left, and-right, differ, Each, each-so, those-all, those-none, any-none}
-use Rattle.list.specs.Fault.{noRecord, rises}
+use Rattle.records.specs.Standing.{rises}
+use Rattle.list.specs.Fault.{noRecord}
 use Rattle.list.specs.Checking.{Placed, records, checkSays}
-use Rattle.list.specs.declared.records.Record.{Record}
-use Rattle.list.proofs.Ordered.{rises-trans, Alike, alike-before, alike-not, neither}
+use Rattle.records.specs.declared.records.Record.{Record}
+use Rattle.records.proofs.Ordered.{rises-trans, Alike, alike-before, alike-not, neither}
 use Rattle.list.proofs.Passed.{Sound, Chain, all-follow}
 use Rattle.edit.specs.Editing.{recordsIn, sameEntry}
 

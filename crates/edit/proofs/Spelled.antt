@@ -14,13 +14,13 @@ use Rattle.words.specs.Writing.{digits}
 use Rattle.words.specs.Realm.{zeroRealm, realmAt, realmBytes}
 use Rattle.words.proofs.Digits.{part-add}
 use Rattle.words.proofs.Written.{digits-length, realm-length, number-again, FitsRealm, realm-again, number-spelled, number-fits, realm-spelled, realm-fits}
-use Rattle.list.specs.Kind.{bodyOf, bodyLength, size, isKnown}
-use Rattle.list.specs.Reading.{recordOf, readAs, readOf}
-use Rattle.list.specs.declared.records.Record.{Record}
-use Rattle.list.specs.declared.records.Read.the-variants.{Whole}
-use Rattle.list.proofs.Bodies.{either, full, realm-length as realms, id-length as ids, rights-length as rightses}
-use Rattle.list.proofs.Tails.{Is, sized}
-use Rattle.list.proofs.Bytewise.{first-byte}
+use Rattle.records.specs.Kind.{bodyOf, bodyLength, size, isKnown}
+use Rattle.records.specs.Reading.{recordOf, readAs, readOf}
+use Rattle.records.specs.declared.records.Record.{Record}
+use Rattle.records.specs.declared.records.Read.the-variants.{Whole}
+use Rattle.records.proofs.Bodies.{either, full, realm-length as realms, id-length as ids, rights-length as rightses}
+use Rattle.records.proofs.Tails.{Is, sized}
+use Rattle.records.proofs.Bytewise.{first-byte}
 use Rattle.edit.specs.Spelling.{partOf, spelled}
 
 -- a part of a body that is n bytes long: none, or w

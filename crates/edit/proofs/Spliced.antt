@@ -10,7 +10,7 @@ use lib.Seq.{length-take-le}
 use Rattle.words.specs.Said.{left}
 use Rattle.words.specs.Writing.{over}
 use Rattle.words.proofs.Written.{over-none, over-start, over-next}
-use Rattle.list.specs.Kind.{size}
+use Rattle.records.specs.Kind.{size}
 use Rattle.edit.specs.Editing.{roomSays, editedSays}
 use Rattle.edit.specs.Spot.{splice, Writes}
 use Rattle.edit.specs.declared.editing.Edited.the-variants.{Length, Refused}

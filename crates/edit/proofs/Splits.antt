@@ -7,9 +7,9 @@ use Prim.Native.Nat.{ℕ, _<_}
 use Rattle.words.specs.Test.{if_then_else_, those}
 use Rattle.words.specs.declared.realm.Realm.{Realm}
 use Rattle.words.proofs.Tests.{Each, each-so, those-append, those-all, those-none, those-pass}
-use Rattle.list.specs.Fault.{rises}
-use Rattle.list.specs.declared.records.Record.{Record}
-use Rattle.list.proofs.Ordered.{rises-asym, neither}
+use Rattle.records.specs.Standing.{rises}
+use Rattle.records.specs.declared.records.Record.{Record}
+use Rattle.records.proofs.Ordered.{rises-asym, neither}
 use Rattle.edit.specs.Spelling.{spelled, spell}
 use Rattle.edit.specs.Editing.{sameEntry, putIn, dropFrom}
 use Rattle.edit.proofs.Sorted.{InOrder, alike-same, alike-back, before-differs, after-differs, none-before, rest-after, none-same}

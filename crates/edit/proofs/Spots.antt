@@ -15,13 +15,13 @@ use Rattle.words.specs.Said.{done}
 use Rattle.words.specs.Number.{Bytes}
 use Rattle.words.specs.Realm.{realmAt}
 use Rattle.words.proofs.Tests.{Each}
-use Rattle.list.specs.Kind.{bodies, body, bodyOf, bodyLength, size}
-use Rattle.list.specs.Reading.{recordOf, readOf}
-use Rattle.list.specs.Fault.{rises}
+use Rattle.records.specs.Kind.{bodies, body, bodyOf, bodyLength, size}
+use Rattle.records.specs.Reading.{recordOf, readOf}
+use Rattle.records.specs.Standing.{rises}
 use Rattle.list.specs.Checking.{checkSays}
-use Rattle.list.specs.declared.records.Record.{Record}
-use Rattle.list.proofs.Tails.{is}
-use Rattle.list.proofs.Ordered.{rises-asym}
+use Rattle.records.specs.declared.records.Record.{Record}
+use Rattle.records.proofs.Tails.{is}
+use Rattle.records.proofs.Ordered.{rises-asym}
 use Rattle.edit.specs.Entry.{isEntry}
 use Rattle.edit.specs.Spelling.{spelled, spell}
 use Rattle.edit.specs.Editing.{recordsIn, sameEntry}

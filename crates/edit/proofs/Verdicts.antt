@@ -14,11 +14,12 @@ use Rattle.words.specs.Number.{Bytes}
 use Rattle.words.specs.Realm.{zeroRealm, realmAt}
 use Rattle.words.specs.declared.realm.Realm.{Realm}
 use Rattle.words.proofs.Tests.{Each, each-so, each-append, those-each, those-pass, any-alike, any-map}
-use Rattle.list.specs.Kind.{body, bodies, bodyOf, wantsMask}
-use Rattle.list.specs.Fault.{begins, noRecord, rises, isForbidden, lacksControl, endFault}
+use Rattle.records.specs.Kind.{body, bodies, bodyOf, wantsMask}
+use Rattle.records.specs.Standing.{rises, isForbidden, lacksControl}
+use Rattle.list.specs.Fault.{begins, noRecord, endFault}
 use Rattle.list.specs.Checking.{Placed, records, refusedAt, faultsAfter, has, seenIn, checkSays}
-use Rattle.list.specs.declared.records.Record.{Record}
-use Rattle.list.proofs.Ordered.{rises-trans}
+use Rattle.records.specs.declared.records.Record.{Record}
+use Rattle.records.proofs.Ordered.{rises-trans}
 use Rattle.list.proofs.Passed.{passes}
 use Rattle.edit.specs.Spelling.{spelled, spell}
 use Rattle.edit.specs.Editing.{recordsIn, sameEntry, putIn, dropFrom}

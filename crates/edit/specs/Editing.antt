@@ -8,9 +8,9 @@ use lib.ListN.{length}
 use Rattle.words.specs.Test.{if_then_else_, anyOf, those}
 use Rattle.words.specs.Said.{Said, done, refused, andThen, left}
 use Rattle.words.specs.Realm.{sameRealm}
-use Rattle.list.specs.Fault.{rises}
+use Rattle.records.specs.Standing.{rises}
 use Rattle.list.specs.Checking.{records, checkSays}
-use Rattle.list.specs.declared.records.Record.{Record}
+use Rattle.records.specs.declared.records.Record.{Record}
 use Rattle.edit.specs.Entry.{isEntry, recordFor}
 use Rattle.edit.specs.Spelling.{spell}
 use Rattle.edit.specs.declared.entry.Entry.{Entry}

@@ -4,8 +4,8 @@ use Prim.Native.Nat.{ℕ}
 use lib.Dec.{eqb, leb}
 use Rattle.words.specs.Test.{if_then_else_}
 use Rattle.words.specs.Realm.{zeroRealm}
-use Rattle.list.specs.Kind.{bodyOf, size}
-use Rattle.list.specs.declared.records.Record.{Record}
+use Rattle.records.specs.Kind.{bodyOf, size}
+use Rattle.records.specs.declared.records.Record.{Record}
 use Rattle.edit.specs.declared.entry.Entry.{Entry}
 
 -- the kinds 2 to 11

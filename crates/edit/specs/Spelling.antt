@@ -5,8 +5,8 @@ use lib.Dec.{eqb}
 use Rattle.words.specs.Test.{if_then_else_}
 use Rattle.words.specs.Writing.{digits}
 use Rattle.words.specs.Realm.{realmBytes}
-use Rattle.list.specs.Kind.{bodyOf}
-use Rattle.list.specs.declared.records.Record.{Record}
+use Rattle.records.specs.Kind.{bodyOf}
+use Rattle.records.specs.declared.records.Record.{Record}
 
 -- a part of a body, which has no bytes where the kind has no such part
 unfoldable pub partOf : ℕ → List ℕ → List ℕ

@@ -9,10 +9,10 @@ use lib.ListN.{length, take, drop}
 use Rattle.words.specs.Test.{if_then_else_, anyOf, those}
 use Rattle.words.specs.Said.{Said, done, refused, left}
 use Rattle.words.specs.Realm.{realmAt}
-use Rattle.list.specs.Kind.{size, wantsMask}
-use Rattle.list.specs.Fault.{rises, isForbidden, lacksControl}
+use Rattle.records.specs.Kind.{size, wantsMask}
+use Rattle.records.specs.Standing.{rises, isForbidden, lacksControl}
 use Rattle.list.specs.Checking.{records, has}
-use Rattle.list.specs.declared.records.Record.{Record}
+use Rattle.records.specs.declared.records.Record.{Record}
 use Rattle.edit.specs.Entry.{isEntry, recordFor}
 use Rattle.edit.specs.Spelling.{spell}
 use Rattle.edit.specs.Editing.{recordsIn, sameEntry, roomSays, editedSays}

@@ -12,7 +12,7 @@ ghost use Prim.Native.Nat.{_≤_};
 ghost use lib.Dec.{eqb};
 ghost use Rattle.words.specs.Test.{if_then_else_};
 ghost use Rattle.words.specs.Realm.{zeroRealm};
-ghost use Rattle.list.specs.Kind.{bodyOf};
+ghost use Rattle.records.specs.Kind.{bodyOf};
 ghost use Rattle.edit.specs.Entry.{isEntry};
 ghost use Rattle.edit.specs.Spot.{Says};
 

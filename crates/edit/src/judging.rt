@@ -19,7 +19,7 @@ ghost use mathlib.Core.Path.{_≡_};
 ghost use mathlib.Core.Bool.{not, _&&_};
 ghost use mathlib.Core.List.{[]};
 ghost use Rattle.words.specs.Said.{done};
-ghost use Rattle.list.specs.Kind.{wantsMask};
+ghost use Rattle.records.specs.Kind.{wantsMask};
 ghost use Rattle.list.specs.Checking.{checkSays};
 ghost use Rattle.evaluate.specs.Evaluation.{verdictSays};
 ghost use Rattle.edit.specs.Spot.{hasMask, putVerdict, dropVerdict};

@@ -7,7 +7,7 @@ use Rattle.words.specs.Test.{those}
 use Rattle.words.specs.Realm.{realmAt, sameRealm}
 use Rattle.words.specs.declared.realm.Realm.{Realm}
 use Rattle.list.specs.Checking.{Placed, records}
-use Rattle.list.specs.declared.records.Record.{Record}
+use Rattle.records.specs.declared.records.Record.{Record}
 use Rattle.evaluate.specs.Asking.{inGroup}
 use Rattle.evaluate.specs.Steps.{Step, masked, unmasked, here, abroad, steps, serving, servedFrom}
 use Rattle.evaluate.specs.Evaluation.{servedIn, evaluation}

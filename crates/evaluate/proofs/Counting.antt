@@ -9,7 +9,7 @@ use lib.Bits.{bitOr, or-zero-l}
 use Rattle.words.specs.Test.{if_then_else_, those}
 use Rattle.words.proofs.Tests.{those-append, Each}
 use Rattle.list.specs.Checking.{Placed}
-use Rattle.list.specs.declared.records.Record.{Record}
+use Rattle.records.specs.declared.records.Record.{Record}
 use Rattle.evaluate.specs.Steps.{Step, Served, serving, servedFrom, union, isMask, masking, first}
 use Rattle.evaluate.specs.Tally.{stepFrom, withMask, withUnion, counted, tallied, tallying}
 use Rattle.evaluate.specs.declared.tally.Tally.{Tally}

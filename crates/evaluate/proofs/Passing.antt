@@ -10,7 +10,7 @@ use Rattle.words.specs.Realm.{sameRealm, realmAt}
 use Rattle.words.proofs.Tests.{Each}
 use Rattle.list.specs.Fault.{noRecord}
 use Rattle.list.specs.Checking.{Placed, placed, records, checkSays}
-use Rattle.list.specs.declared.records.Record.{Record}
+use Rattle.records.specs.declared.records.Record.{Record}
 use Rattle.evaluate.specs.Steps.{Step, masked, unmasked, here, abroad, steps, serving, servedFrom, served, union, isMask, masking, first}
 use Rattle.evaluate.specs.Evaluation.{unlessRefused, byStep, servedIn, evaluation, evaluatedAs, verdictSays}
 use Rattle.evaluate.specs.Tally.{noTally, tallying, allowed, tallyIn, passSays, Passes}

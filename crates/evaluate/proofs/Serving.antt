@@ -7,7 +7,7 @@ use borrow.Author.Tests.{ne-eqb}
 use lib.Dec.{eqb}
 use Rattle.words.specs.Test.{if_then_else_}
 use Rattle.words.specs.Realm.{sameRealm}
-use Rattle.list.specs.declared.records.Record.{Record}
+use Rattle.records.specs.declared.records.Record.{Record}
 use Rattle.evaluate.specs.Asking.{inGroup}
 use Rattle.evaluate.specs.Steps.{masked, unmasked, here, abroad, steps}
 use Rattle.evaluate.specs.Tally.{stepFrom}

@@ -11,9 +11,9 @@ use Rattle.words.specs.Realm.{unknownRealm, realmAt, sameRealm}
 use Rattle.words.specs.declared.realm.Realm.{Realm}
 use Rattle.words.proofs.Tests.{or-left, Each}
 use Rattle.words.proofs.Order.{realms-swapped}
-use Rattle.list.specs.Fault.{isForbidden}
+use Rattle.records.specs.Standing.{isForbidden}
 use Rattle.list.specs.Checking.{Placed, records, checkSays}
-use Rattle.list.specs.declared.records.Record.{Record}
+use Rattle.records.specs.declared.records.Record.{Record}
 use Rattle.list.proofs.Passed.{Sound, IsSound, all-sound, default-known}
 use Rattle.evaluate.specs.Steps.{Step, masked, unmasked, here, abroad, steps, serving, servedFrom}
 use Rattle.evaluate.specs.Evaluation.{servedIn}

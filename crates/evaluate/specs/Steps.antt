@@ -8,7 +8,7 @@ use Rattle.words.specs.Test.{if_then_else_, those}
 use Rattle.words.specs.Realm.{sameRealm}
 use Rattle.list.specs.Fault.{noRecord}
 use Rattle.list.specs.Checking.{Placed, placed}
-use Rattle.list.specs.declared.records.Record.{Record}
+use Rattle.records.specs.declared.records.Record.{Record}
 use Rattle.evaluate.specs.Asking.{inGroup}
 use Rattle.evaluate.specs.declared.asking.Caller.{Caller}
 use Rattle.evaluate.specs.declared.asking.File.{File}

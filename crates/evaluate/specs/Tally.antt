@@ -9,7 +9,7 @@ use Rattle.words.specs.Test.{if_then_else_}
 use Rattle.words.specs.Said.{Said, done, refused}
 use Rattle.words.specs.Realm.{realmAt, sameRealm}
 use Rattle.list.specs.Checking.{Placed, records, checkSays}
-use Rattle.list.specs.declared.records.Record.{Record}
+use Rattle.records.specs.declared.records.Record.{Record}
 use Rattle.evaluate.specs.Steps.{Step, steps, isMask}
 use Rattle.evaluate.specs.declared.asking.Caller.{Caller}
 use Rattle.evaluate.specs.declared.asking.File.{File}

@@ -10,11 +10,12 @@ use Rattle.words.specs.Test.{if_then_else_, anyOf}
 use Rattle.words.specs.Said.{Said, done, refused, andThen}
 use Rattle.words.specs.Realm.{unknownRealm, sameRealm, realmAt}
 use Rattle.words.specs.declared.realm.Realm.{Realm}
-use Rattle.list.specs.Fault.{begins, noRecord, rises, isForbidden, fault, Seen, endFault}
+use Rattle.records.specs.Standing.{rises, isForbidden}
+use Rattle.list.specs.Fault.{begins, noRecord, fault, Seen, endFault}
 use Rattle.list.specs.Checking.{Found, cut, records, refusedAt, passed, faultsAfter, seenIn, checkSays}
-use Rattle.list.specs.declared.records.Record.{Record}
-use Rattle.list.specs.declared.records.Read.{Read}
-use Rattle.list.specs.declared.records.Read.the-variants.{Nothing, Unknown, Short, Whole}
+use Rattle.records.specs.declared.records.Record.{Record}
+use Rattle.records.specs.declared.records.Read.{Read}
+use Rattle.records.specs.declared.records.Read.the-variants.{Nothing, Unknown, Short, Whole}
 use Rattle.evaluate.specs.Evaluation.{Decided, bare, unlessRefused, byStep, evaluation}
 use Rattle.evaluate.specs.declared.asking.Caller.{Caller}
 use Rattle.evaluate.specs.declared.asking.File.{File}

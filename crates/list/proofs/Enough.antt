@@ -6,11 +6,11 @@ use native.Mathlib.Omega.{arith}
 use lib.Dec.{eqb}
 use lib.ListN.{length, drop, length-drop}
 use Rattle.words.specs.Test.{if_then_else_}
-use Rattle.list.specs.Reading.{readOf, whenWhole}
+use Rattle.records.specs.Reading.{readOf, whenWhole}
+use Rattle.records.specs.declared.records.Read.{Read}
+use Rattle.records.specs.declared.records.Read.the-variants.{Nothing, Unknown, Short, Whole}
+use Rattle.records.proofs.Tails.{within-tail}
 use Rattle.list.specs.Checking.{Found, found, cutFrom, cut}
-use Rattle.list.specs.declared.records.Read.{Read}
-use Rattle.list.specs.declared.records.Read.the-variants.{Nothing, Unknown, Short, Whole}
-use Rattle.list.proofs.Tails.{within-tail}
 
 bounds : (n m at : ℕ) (t : List ℕ) → length t ≤ n → length t ≤ m → cutFrom n at t ≡ cutFrom m at t
 unfolding cutFrom whenWhole

@@ -1,7 +1,3 @@
-pub mod Bodies
-pub mod Tails
-pub mod Rising
-pub mod Ordered
 pub mod Marks
 pub mod Runs
 pub mod Whole
@@ -9,7 +5,6 @@ pub mod Enough
 pub mod Places
 pub mod Passed
 pub mod Once
-pub mod Bytewise
 pub mod Determined
 pub mod Opened
 pub mod Day

@@ -10,10 +10,11 @@ use lib.Dec.{eqb, leb, lit<}
 use Rattle.words.specs.Test.{if_then_else_}
 use Rattle.words.specs.Bit.{bit}
 use Rattle.words.proofs.Bits.{bit-or}
-use Rattle.list.specs.Kind.{wantsMask}
-use Rattle.list.specs.Fault.{lacksControl, Seen, endFault}
+use Rattle.records.specs.Kind.{wantsMask}
+use Rattle.records.specs.Standing.{lacksControl}
+use Rattle.records.specs.declared.records.Record.{Record}
+use Rattle.list.specs.Fault.{Seen, endFault}
 use Rattle.list.specs.Walking.{markOf, seenOf}
-use Rattle.list.specs.declared.records.Record.{Record}
 
 -- what one record has
 unfoldable pub of : Record → Seen

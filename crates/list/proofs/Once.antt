@@ -12,12 +12,13 @@ use Rattle.words.specs.Said.{done}
 use Rattle.words.specs.Realm.{zeroRealm, realmAt, lessRealm}
 use Rattle.words.specs.declared.realm.Realm.{Realm}
 use Rattle.words.proofs.Order.{tied}
-use Rattle.list.specs.Kind.{bodyOf}
-use Rattle.list.specs.Reading.{recordOf}
-use Rattle.list.specs.Fault.{noRecord, rises}
+use Rattle.records.specs.Kind.{bodyOf}
+use Rattle.records.specs.Reading.{recordOf}
+use Rattle.records.specs.Standing.{rises}
+use Rattle.records.specs.declared.records.Record.{Record}
+use Rattle.records.proofs.Tails.{Is, unplaced}
+use Rattle.list.specs.Fault.{noRecord}
 use Rattle.list.specs.Checking.{Placed, records, checkSays}
-use Rattle.list.specs.declared.records.Record.{Record}
-use Rattle.list.proofs.Tails.{Is, unplaced}
 use Rattle.list.proofs.Passed.{Chain, all-follow}
 
 -- kinds do not fall

@@ -4,9 +4,10 @@ use Rattle.words.specs.Said.{andThen}
 use Rattle.words.specs.Lines.{line}
 use Rattle.words.specs.Number.{numberFrom, within, numberAt}
 use Rattle.words.specs.Realm.{zeroRealm, unknownRealm, realmAt, sameRealm, lessRealm}
-use Rattle.list.specs.Kind.{body, bodies, bodyOf, bodyLength, size, isKnown, isForeign, wantsMask}
-use Rattle.list.specs.Reading.{recordOf, readAs, readOf, whenWhole}
-use Rattle.list.specs.Fault.{begins, noRecord, rises, isForbidden, fault, lacksControl, endFault}
+use Rattle.records.specs.Kind.{body, bodies, bodyOf, bodyLength, size, isKnown, isForeign, wantsMask}
+use Rattle.records.specs.Reading.{recordOf, readAs, readOf, whenWhole}
+use Rattle.records.specs.Standing.{rises, isForbidden, lacksControl}
+use Rattle.list.specs.Fault.{begins, noRecord, fault, endFault}
 use Rattle.list.specs.Checking.{found, cutFrom, cut, placed, wholes, records, refusedAt, passed, faultsAfter, has, seenIn, checkSays}
 
 -- one name that opens every definition, for what is computed

@@ -12,14 +12,15 @@ use Rattle.words.specs.Said.{Said, done, refused, andThen}
 use Rattle.words.specs.Realm.{unknownRealm, realmAt, sameRealm}
 use Rattle.words.specs.declared.realm.Realm.{Realm}
 use Rattle.words.proofs.Tests.{or-left, Each}
-use Rattle.list.specs.Kind.{body, bodies, bodyOf}
-use Rattle.list.specs.Reading.{recordOf, readOf, whenWhole}
-use Rattle.list.specs.Fault.{begins, noRecord, rises, isForbidden, fault, endFault}
+use Rattle.records.specs.Kind.{body, bodies, bodyOf}
+use Rattle.records.specs.Reading.{recordOf, readOf, whenWhole}
+use Rattle.records.specs.Standing.{rises, isForbidden}
+use Rattle.records.specs.declared.records.Record.{Record}
+use Rattle.records.specs.declared.records.Read.{Read}
+use Rattle.records.specs.declared.records.Read.the-variants.{Nothing, Unknown, Short, Whole}
+use Rattle.records.proofs.Tails.{Is, is, empty}
+use Rattle.list.specs.Fault.{begins, noRecord, fault, endFault}
 use Rattle.list.specs.Checking.{found, cutFrom, cut, Placed, placed, wholes, records, refusedAt, passed, faultsAfter, seenIn, checkSays}
-use Rattle.list.specs.declared.records.Record.{Record}
-use Rattle.list.specs.declared.records.Read.{Read}
-use Rattle.list.specs.declared.records.Read.the-variants.{Nothing, Unknown, Short, Whole}
-use Rattle.list.proofs.Tails.{Is, is, empty}
 
 -- refusals 14 and 16 do not concern the record
 pub record Sound (home : Realm) (r : Record) : Type 0 where

@@ -8,11 +8,11 @@ use lib.Dec.{eqb}
 use lib.ListN.{length, drop, length-drop}
 use Rattle.words.specs.Test.{if_then_else_}
 use Rattle.words.proofs.Tests.{Each}
-use Rattle.list.specs.Reading.{readOf, whenWhole}
+use Rattle.records.specs.Reading.{readOf, whenWhole}
+use Rattle.records.specs.declared.records.Read.{Read}
+use Rattle.records.specs.declared.records.Read.the-variants.{Nothing, Unknown, Short, Whole}
+use Rattle.records.proofs.Tails.{within-tail}
 use Rattle.list.specs.Checking.{found, cutFrom, cut, Placed, placed, wholes, records}
-use Rattle.list.specs.declared.records.Read.{Read}
-use Rattle.list.specs.declared.records.Read.the-variants.{Nothing, Unknown, Short, Whole}
-use Rattle.list.proofs.Tails.{within-tail}
 
 -- a record ends at n or before
 abbrev pub EndsBy : ℕ → Placed → Type 0

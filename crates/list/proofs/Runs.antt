@@ -14,18 +14,18 @@ use lib.Seq.{drop-drop}
 use Rattle.words.specs.Test.{if_then_else_, anyOf}
 use Rattle.words.specs.Bit.{bit}
 use Rattle.words.specs.Said.{Said, done, refused, andThen}
-use Rattle.list.specs.Reading.{readOf, whenWhole}
+use Rattle.records.specs.Reading.{readOf, whenWhole}
+use Rattle.records.specs.declared.records.Record.{Record}
+use Rattle.records.specs.declared.records.Read.{Read}
+use Rattle.records.specs.declared.records.Read.the-variants.{Nothing, Unknown, Short, Whole}
+use Rattle.records.proofs.Tails.{within-tail, empty}
 use Rattle.list.specs.Fault.{begins, fault, Seen, endFault}
 use Rattle.list.specs.Walking.{markOf, seenOf, startOf, walkAfter, refusedOr, heard, stepOf, Steps}
 use Rattle.list.specs.Checking.{Found, found, cutFrom, cut, Placed, placed, wholes, records, refusedAt, passed, faultsAfter, has, seenIn, checkSays}
-use Rattle.list.specs.declared.records.Record.{Record}
-use Rattle.list.specs.declared.records.Read.{Read}
-use Rattle.list.specs.declared.records.Read.the-variants.{Nothing, Unknown, Short, Whole}
 use Rattle.list.specs.declared.walk.Walk.{Walk}
 use Rattle.list.specs.declared.walk.Step.{Step}
 use Rattle.list.specs.declared.walk.Step.the-variants.{Next, Refused, End}
 use Rattle.list.proofs.Marks.{of, joined, marked}
-use Rattle.list.proofs.Tails.{within-tail, empty}
 
 -- what was seen, and what the records to come have
 seeing : Seen → List Placed → Seen

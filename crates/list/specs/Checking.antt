@@ -8,11 +8,12 @@ use Rattle.words.specs.Test.{if_then_else_, anyOf}
 use Rattle.words.specs.Said.{Said, done, refused, andThen}
 use Rattle.words.specs.Realm.{realmAt}
 use Rattle.words.specs.declared.realm.Realm.{Realm}
-use Rattle.list.specs.Kind.{wantsMask}
-use Rattle.list.specs.Reading.{readOf, whenWhole}
-use Rattle.list.specs.Fault.{begins, noRecord, fault, lacksControl, Seen, endFault}
-use Rattle.list.specs.declared.records.Record.{Record}
-use Rattle.list.specs.declared.records.Read.{Read}
+use Rattle.records.specs.Kind.{wantsMask}
+use Rattle.records.specs.Reading.{readOf, whenWhole}
+use Rattle.records.specs.Standing.{lacksControl}
+use Rattle.records.specs.declared.records.Record.{Record}
+use Rattle.records.specs.declared.records.Read.{Read}
+use Rattle.list.specs.Fault.{begins, noRecord, fault, Seen, endFault}
 
 -- a place of a list and what is read there
 pub record Found : Type 0 where

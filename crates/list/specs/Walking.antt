@@ -10,12 +10,13 @@ use Rattle.words.specs.Test.{if_then_else_}
 use Rattle.words.specs.Said.{Said, done, refused}
 use Rattle.words.specs.Bit.{bit}
 use Rattle.words.specs.Realm.{realmAt}
-use Rattle.list.specs.Kind.{wantsMask}
-use Rattle.list.specs.Reading.{readOf, whenWhole}
-use Rattle.list.specs.Fault.{begins, noRecord, fault, lacksControl, Seen, endFault}
+use Rattle.records.specs.Kind.{wantsMask}
+use Rattle.records.specs.Reading.{readOf, whenWhole}
+use Rattle.records.specs.Standing.{lacksControl}
+use Rattle.records.specs.declared.records.Record.{Record}
+use Rattle.records.specs.declared.records.Read.{Read}
+use Rattle.list.specs.Fault.{begins, noRecord, fault, Seen, endFault}
 use Rattle.list.specs.Checking.{Placed, placed}
-use Rattle.list.specs.declared.records.Record.{Record}
-use Rattle.list.specs.declared.records.Read.{Read}
 use Rattle.list.specs.declared.walk.Walk.{Walk}
 use Rattle.list.specs.declared.walk.Step.{Step}
 use Rattle.list.specs.declared.walk.Step.the-variants.{Next, Refused, End}

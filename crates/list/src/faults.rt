@@ -1,67 +1,33 @@
 // What is wrong with a record after the one before it, and with a list after its last record.
-use crate::kind::ANY_OTHER;
-use crate::kind::DEFAULT_REALM;
-use crate::kind::FOREIGN_USER;
-use crate::kind::GROUP_OBJ;
-use crate::kind::MASK_OBJ;
-use crate::kind::OTHER_OBJ;
-use crate::kind::USER_OBJ;
-use crate::kind::is_foreign;
-use crate::records::Record;
 use crate::refusal::CONTROL_MISSING;
 use crate::refusal::FORBIDDEN_REALM;
 use crate::refusal::MASK_MISSING;
 use crate::refusal::OBJECT_MISSING;
 use crate::refusal::OUT_OF_ORDER;
 use crate::refusal::RIGHTS_ABOVE_63;
+use records::Record;
+use records::in_order;
+use records::is_forbidden;
+use records::kind::ANY_OTHER;
+use records::kind::DEFAULT_REALM;
+use records::kind::FOREIGN_USER;
+use records::kind::GROUP_OBJ;
+use records::kind::MASK_OBJ;
+use records::kind::OTHER_OBJ;
+use records::kind::USER_OBJ;
+use records::lacks_control;
 use words::Realm;
-use words::is_unknown;
-use words::same_realm;
 ghost use mathlib.Core.Path.{_≡_};
 ghost use mathlib.Core.Bool.{true};
 ghost use lib.Dec.{eqb};
 ghost use Rattle.words.specs.Realm.{zeroRealm};
-ghost use Rattle.list.specs.Kind.{bodyOf};
-ghost use Rattle.list.specs.Fault.{isForbidden, fault, endFault, TellsOrder, TellsForbidden, TellsPowerless};
+ghost use Rattle.records.specs.Kind.{bodyOf};
+ghost use Rattle.records.specs.Standing.{isForbidden};
+ghost use Rattle.records.specs.declared.records.Read.the-variants.{Whole};
+ghost use Rattle.list.specs.Fault.{fault, endFault};
 ghost use Rattle.list.specs.Walking.{markOf, seenOf};
-ghost use Rattle.list.specs.declared.records.Read.the-variants.{Whole};
 
-// By kind, then by body without rights: the numbers' order is the bytes' order.
-pub fn in_order(earlier: Record, r: Record) -> bool
-    ensures { λ b. ⌜ TellsOrder earlier r b ⌝ }
-{
-    if earlier.kind != r.kind {
-        return earlier.kind < r.kind;
-    }
-    if r.kind == DEFAULT_REALM {
-        return false;
-    }
-    let a = earlier.realm;
-    let b = r.realm;
-    if a.hi != b.hi {
-        return a.hi < b.hi;
-    }
-    if a.lo != b.lo {
-        return a.lo < b.lo;
-    }
-    earlier.id < r.id
-}
-
-// The unknown realm, or the default realm in a foreign record.
-pub fn is_forbidden(home: Realm, r: Record) -> bool
-    ensures { λ b. ⌜ TellsForbidden home r b ⌝ }
-{
-    let realm = r.realm;
-    if is_unknown(realm) {
-        return true;
-    }
-    if !is_foreign(r.kind) {
-        return false;
-    }
-    same_realm(realm, home)
-}
-
-// The same of a record as it is read: where its kind has no realm it names none.
+// A forbidden realm in a record as it is read: where its kind has no realm it names none.
 fn is_barred(home: Realm, r: Record) -> bool
     requires { ⌜ (eqb (bodyOf (r .kind) .realm) 0 ≡ true → r .realm ≡ zeroRealm) ⌝ }
     ensures { λ b. ⌜ b ≡ isForbidden home r ⌝ }
@@ -88,13 +54,6 @@ pub(crate) fn fault_of(home: Realm, earlier: Record, r: Record) -> u8
         return FORBIDDEN_REALM;
     }
     0
-}
-
-// A user_obj without control.
-pub fn lacks_control(r: Record) -> bool
-    ensures { λ b. ⌜ TellsPowerless r b ⌝ }
-{
-    (r.kind == USER_OBJ) & (r.rights / 8 % 2 == 0)
 }
 
 // What a record leaves for the end of the list: 1 user_obj, 2 group_obj, 4 other_obj, 8 mask_obj, 16 a record that wants a

@@ -2,14 +2,14 @@
 use crate::faults::end_fault;
 use crate::faults::fault_of;
 use crate::faults::mark_of;
-use crate::kind::DEFAULT_REALM;
-use crate::records::Read;
-use crate::records::Record;
-use crate::records::read_record;
 use crate::refusal::CUT_SHORT;
 use crate::refusal::NO_DEFAULT_REALM;
 use crate::refusal::TOO_LONG;
 use crate::refusal::UNKNOWN_KIND;
+use records::Read;
+use records::Record;
+use records::kind::DEFAULT_REALM;
+use records::read_record;
 use words::Realm;
 use words::realm_at;
 ghost use mathlib.Core.Path.{_≡_};
@@ -18,11 +18,11 @@ ghost use Prim.Native.Nat.{_+_, _<_, _^_};
 ghost use lib.Dec.{eqb};
 ghost use lib.ListN.{length};
 ghost use Rattle.words.specs.Realm.{zeroRealm};
-ghost use Rattle.list.specs.Kind.{bodyOf};
-ghost use Rattle.list.specs.Reading.{readOf};
+ghost use Rattle.records.specs.Kind.{bodyOf};
+ghost use Rattle.records.specs.Reading.{readOf};
+ghost use Rattle.records.specs.declared.records.Read.the-variants.{Whole};
 ghost use Rattle.list.specs.Fault.{begins, endFault};
 ghost use Rattle.list.specs.Walking.{seenOf, walkAfter, refusedOr, heard, Starts, Steps};
-ghost use Rattle.list.specs.declared.records.Read.the-variants.{Whole};
 ghost use Rattle.list.specs.declared.walk.Step.the-variants.{End};
 
 // A list is at most so many bytes.

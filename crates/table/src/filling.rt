@@ -3,7 +3,7 @@ use crate::NEXT;
 use crate::form::is_length;
 use crate::refusal::NOT_WELL_FORMED;
 use crate::reply::Reply;
-use words::write_number64;
+use writes::write_number64;
 ghost use mathlib.Core.Path.{_≡_};
 ghost use lib.ListN.{length, replicate};
 ghost use Rattle.table.specs.Fill.{Fills};

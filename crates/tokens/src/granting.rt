@@ -14,7 +14,7 @@ use table::refusal::NOT_WELL_FORMED;
 use table::refusal::NUMBERS_SPENT;
 use table::write_slot;
 use words::number64;
-use words::write_number64;
+use writes::write_number64;
 ghost use mathlib.Core.Path.{_≡_};
 ghost use mathlib.Core.Bool.{true};
 ghost use Rattle.words.specs.Test.{placeOf};

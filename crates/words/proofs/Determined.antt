@@ -5,9 +5,8 @@ use mathlib.Core.List.{List, [], _∷_}
 use Prim.Native.Nat.{ℕ}
 use lib.ListN.{getD}
 use Rattle.words.specs.Said.{Said, done, refused}
-use Rattle.words.specs.Number.{ReadsNumber}
-use Rattle.words.specs.Writing.{WritesNumber}
-use Rattle.words.specs.Realm.{ReadsRealm, WritesRealm, TellsRealms, TellsUnknown}
+use Rattle.words.specs.Number.{TellsWithin, ReadsNumber}
+use Rattle.words.specs.Realm.{ReadsRealm, TellsRealms, TellsUnknown}
 use Rattle.words.specs.declared.realm.Realm.{Realm}
 
 -- where an answer can be read back from what it says, two answers that say the same are equal
@@ -22,6 +21,9 @@ module _ {R : Type 0} (value plain : ℕ → R) (placed : ℕ → ℕ → R) whe
   unsaid (refused number []) = plain number
   unsaid (refused number (place ∷ more)) = placed number place
 
+pub holds-determined : (width : ℕ) (bytes : List ℕ) (at : ℕ) (r r′ : Bool) → TellsWithin width bytes at r → TellsWithin width bytes at r′ → r ≡ r′
+holds-determined width bytes at r r′ p q = p .answer ∙ sym (q .answer)
+
 -- number16, number32 and number64
 pub number-determined : (width : ℕ) (bytes : List ℕ) (at r r′ : ℕ) → ReadsNumber width bytes at r → ReadsNumber width bytes at r′ → r ≡ r′
 number-determined width bytes at r r′ p q = p .answer ∙ sym (q .answer)
@@ -34,12 +36,3 @@ same-realm-determined a b r r′ p q = p .answer ∙ sym (q .answer)
 
 pub is-unknown-determined : (realm : Realm) (r r′ : Bool) → TellsUnknown realm r → TellsUnknown realm r′ → r ≡ r′
 is-unknown-determined realm r r′ p q = p .answer ∙ sym (q .answer)
-
--- write_number16, write_number32 and write_number64
-pub write-number-determined : (width n : ℕ) (bytes : List ℕ) (at : ℕ) (after after′ : List ℕ)
-    → WritesNumber width n bytes at after → WritesNumber width n bytes at after′ → after ≡ after′
-write-number-determined width n bytes at after after′ p q = p .bytes-after ∙ sym (q .bytes-after)
-
-pub write-realm-determined : (realm : Realm) (bytes : List ℕ) (at : ℕ) (after after′ : List ℕ)
-    → WritesRealm realm bytes at after → WritesRealm realm bytes at after′ → after ≡ after′
-write-realm-determined realm bytes at after after′ p q = p .bytes-after ∙ sym (q .bytes-after)

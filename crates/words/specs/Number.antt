@@ -30,6 +30,10 @@ within at width bytes = leb (at + width) (length bytes)
 unfoldable pub numberAt : ℕ → ℕ → List ℕ → ℕ
 numberAt width at bytes = cond (within at width bytes) (number (part at width bytes)) 0
 
+-- telling whether the bytes of a width at a place are all there
+pub record TellsWithin (width : ℕ) (bytes : List ℕ) (at : ℕ) (r : Bool) : Type 0 where
+  pub answer : r ≡ within at width bytes
+
 -- reading a number of some width
 pub record ReadsNumber (width : ℕ) (bytes : List ℕ) (at : ℕ) (r : ℕ) : Type 0 where
   pub answer : r ≡ numberAt width at bytes

@@ -1,10 +1,9 @@
-// Big-endian numbers, read from lent bytes and written to them.
+// Big-endian numbers, read from lent bytes.
 ghost use mathlib.Core.Path.{_≡_};
 ghost use Prim.Native.Nat.{_+_, _*_, _/_, _%_, _≤_, _<_};
 ghost use lib.ListN.{length};
-ghost use Rattle.words.specs.Number.{number, part, within, ReadsNumber};
+ghost use Rattle.words.specs.Number.{number, part, TellsWithin, ReadsNumber};
 ghost use Rattle.words.specs.Little.{LittleTwo, LittleFour};
-ghost use Rattle.words.specs.Writing.{digits, over, WritesNumber};
 
 fn wide(byte: u8) -> u32
     ensures { λ r. ⌜ (r ≡ byte) × (r < 256) ⌝ }
@@ -13,8 +12,8 @@ fn wide(byte: u8) -> u32
 }
 
 // All bytes of a width at a place are there.
-pub(crate) fn holds(bytes: &[u8], at: usize, width: usize) -> bool
-    ensures { λ r. ⌜ r ≡ within at width (now (bytes .entry)) ⌝ }
+pub fn holds(bytes: &[u8], at: usize, width: usize) -> bool
+    ensures { λ r. ⌜ TellsWithin width (now (bytes .entry)) at r ⌝ }
 {
     let n = bytes.len();
     if n < width {
@@ -106,58 +105,5 @@ pub fn number64(bytes: &[u8], at: usize) -> u64
         whole64(bytes, at)
     } else {
         0
-    }
-}
-
-fn store16(bytes: &mut [u8], at: usize, n: u16)
-    requires { ⌜ at + 2 ≤ length (now bytes) ⌝ }
-    ensures { λ _. ⌜ now (bytes .exit) ≡ over at (digits 2 n) (now (bytes .entry)) ⌝ }
-{
-    bytes[at] = (n / 256) as u8;
-    bytes[at + 1] = (n % 256) as u8;
-}
-
-fn store32(bytes: &mut [u8], at: usize, n: u32)
-    requires { ⌜ at + 4 ≤ length (now bytes) ⌝ }
-    ensures { λ _. ⌜ now (bytes .exit) ≡ over at (digits 4 n) (now (bytes .entry)) ⌝ }
-{
-    bytes[at] = (n / 16777216) as u8;
-    bytes[at + 1] = (n / 65536 % 256) as u8;
-    bytes[at + 2] = (n / 256 % 256) as u8;
-    bytes[at + 3] = (n % 256) as u8;
-}
-
-pub(crate) fn store64(bytes: &mut [u8], at: usize, n: u64)
-    requires { ⌜ at + 8 ≤ length (now bytes) ⌝ }
-    ensures { λ _. ⌜ now (bytes .exit) ≡ over at (digits 8 n) (now (bytes .entry)) ⌝ }
-{
-    store32(bytes, at, (n / 4294967296) as u32);
-    store32(bytes, at + 4, (n % 4294967296) as u32);
-}
-
-// The two bytes of a number at a place; nothing is written where they have no room.
-pub fn write_number16(bytes: &mut [u8], at: usize, n: u16)
-    ensures { λ _. ⌜ WritesNumber 2 n (now (bytes .entry)) at (now (bytes .exit)) ⌝ }
-{
-    if holds(bytes, at, 2) {
-        store16(bytes, at, n);
-    }
-}
-
-// The same of four bytes.
-pub fn write_number32(bytes: &mut [u8], at: usize, n: u32)
-    ensures { λ _. ⌜ WritesNumber 4 n (now (bytes .entry)) at (now (bytes .exit)) ⌝ }
-{
-    if holds(bytes, at, 4) {
-        store32(bytes, at, n);
-    }
-}
-
-// The same of eight bytes.
-pub fn write_number64(bytes: &mut [u8], at: usize, n: u64)
-    ensures { λ _. ⌜ WritesNumber 8 n (now (bytes .entry)) at (now (bytes .exit)) ⌝ }
-{
-    if holds(bytes, at, 8) {
-        store64(bytes, at, n);
     }
 }

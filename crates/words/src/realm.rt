@@ -1,8 +1,7 @@
 // Realms: sixteen bytes, held as two numbers of eight.
 use crate::number::holds;
-use crate::number::store64;
 use crate::number::whole64;
-ghost use Rattle.words.specs.Realm.{ReadsRealm, WritesRealm, TellsRealms, TellsUnknown};
+ghost use Rattle.words.specs.Realm.{ReadsRealm, TellsRealms, TellsUnknown};
 
 pub struct Realm {
     pub hi: u64,
@@ -23,16 +22,6 @@ pub fn realm_at(bytes: &[u8], at: usize) -> Realm
         }
     } else {
         Realm { hi: 0, lo: 0 }
-    }
-}
-
-// The sixteen bytes of a realm at a place; nothing is written where they have no room.
-pub fn write_realm(bytes: &mut [u8], at: usize, realm: Realm)
-    ensures { λ _. ⌜ WritesRealm realm (now (bytes .entry)) at (now (bytes .exit)) ⌝ }
-{
-    if holds(bytes, at, 16) {
-        store64(bytes, at, realm.hi);
-        store64(bytes, at + 8, realm.lo);
     }
 }
 

@@ -1,7 +1,7 @@
 use native.Mathlib.Omega.{arith}
 use borrow.Author.Needs.{needs}
 use lib.ListN.{getD}
-use Rattle.list.proofs.Bodies.{some-size}
+use Rattle.records.proofs.Bodies.{some-size}
 use Rattle.edit.proofs.Lengths.{size-is, head-is}
 use Rattle.edit.proofs.spot.head_of.Statement.{statement}
 use Rattle.edit.proofs.spot.head_of.Tie as tie

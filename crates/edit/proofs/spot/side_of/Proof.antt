@@ -1,8 +1,8 @@
 use native.Mathlib.Omega.{arith}
 use borrow.Author.Needs.{needs}
 use lib.ListN.{getD}
-use Rattle.list.specs.Reading.{recordOf}
-use Rattle.list.proofs.Bodies.{some-size}
+use Rattle.records.specs.Reading.{recordOf}
+use Rattle.records.proofs.Bodies.{some-size}
 use Rattle.edit.proofs.Sides.{lower-kind, higher-kind, is-before, is-after, is-same}
 use Rattle.edit.proofs.spot.side_of.Statement.{statement}
 use Rattle.edit.proofs.spot.side_of.Tie as tie

@@ -1,5 +1,5 @@
 use borrow.Author.Needs.{needs}
-use Rattle.list.proofs.Bodies.{unbarred}
+use Rattle.records.proofs.Bodies.{unbarred}
 use Rattle.list.proofs.faults.is_barred.Statement.{statement}
 use Rattle.list.proofs.faults.is_barred.Tie as tie
 

@@ -1,6 +1,6 @@
 use borrow.Author.Needs.{needs}
 use borrow.Author.Tests.{eq-eqb, ne-eqb, le-leb, lt-leb}
-use Rattle.list.specs.Kind.{wantsMask}
+use Rattle.records.specs.Kind.{wantsMask}
 use Rattle.list.specs.Walking.{markOf}
 use Rattle.list.proofs.faults.mark_of.Statement.{statement}
 use Rattle.list.proofs.faults.mark_of.Tie as tie

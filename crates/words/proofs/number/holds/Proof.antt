@@ -13,5 +13,5 @@ unfolding within
 holds-spec =
     tie.close
     (tie.spec
-    (λ c. let a = c .before .args in sym (lt-leb (a .at + a .width) (length (a .bytes .now)) (omega arith)))
-    (λ c. let a = c .before .args in room (a .at) (a .width) (length (a .bytes .now)) (omega arith)))
+    (λ c. let a = c .before .args in record { answer = sym (lt-leb (a .at + a .width) (length (a .bytes .now)) (omega arith)) })
+    (λ c. let a = c .before .args in record { answer = room (a .at) (a .width) (length (a .bytes .now)) (omega arith) }))

@@ -10,6 +10,6 @@ number64-spec =
     tie.close
     (tie.spec
     (λ c κs. search needs)
-    (λ c κs. fits _ _ _ (c .before .holds .ensures) (c .if1 .taken))
-    (λ c. record { answer = simp (← c .before .before .holds .ensures, c .before .if1 .taken, c .whole64 .ensures) })
-    (λ c. record { answer = simp (← c .before .holds .ensures, c .if1 .left) }))
+    (λ c κs. fits _ _ _ (c .before .holds .ensures .answer) (c .if1 .taken))
+    (λ c. record { answer = simp (← c .before .before .holds .ensures .answer, c .before .if1 .taken, c .whole64 .ensures) })
+    (λ c. record { answer = simp (← c .before .holds .ensures .answer, c .if1 .left) }))

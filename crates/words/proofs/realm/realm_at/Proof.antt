@@ -11,8 +11,8 @@ realm-at-spec =
     tie.close
     (tie.spec
     (λ c κs. search needs)
-    (λ c κs. let h = fits _ _ _ (c .before .holds .ensures) (c .if1 .taken) in omega arith)
-    (λ c. let h = fits _ _ _ (c .before .before .holds .ensures) (c .before .if1 .taken) in omega arith)
-    (λ c κs. let h = fits _ _ _ (c .before .before .holds .ensures) (c .before .if1 .taken) in omega arith)
-    (λ c. record { answer = simp (← c .before .before .before .holds .ensures, c .before .before .if1 .taken, c .before .whole64 .ensures, c .whole642 .ensures) })
-    (λ c. record { answer = simp (← c .before .holds .ensures, c .if1 .left) }))
+    (λ c κs. let h = fits _ _ _ (c .before .holds .ensures .answer) (c .if1 .taken) in omega arith)
+    (λ c. let h = fits _ _ _ (c .before .before .holds .ensures .answer) (c .before .if1 .taken) in omega arith)
+    (λ c κs. let h = fits _ _ _ (c .before .before .holds .ensures .answer) (c .before .if1 .taken) in omega arith)
+    (λ c. record { answer = simp (← c .before .before .before .holds .ensures .answer, c .before .before .if1 .taken, c .before .whole64 .ensures, c .whole642 .ensures) })
+    (λ c. record { answer = simp (← c .before .holds .ensures .answer, c .if1 .left) }))

@@ -1,10 +1,10 @@
 use mathlib.Core.Path.{sym, _∙_}
 use native.Mathlib.Omega.{arith}
 use borrow.Author.Needs.{needs}
-use Rattle.list.specs.Reading.{whenWhole}
+use Rattle.records.specs.Reading.{whenWhole}
+use Rattle.records.proofs.Tails.{is, within-tail, unplaced}
 use Rattle.list.specs.Fault.{fault}
 use Rattle.list.specs.Walking.{heard, refusedOr}
-use Rattle.list.proofs.Tails.{is, within-tail, unplaced}
 use Rattle.list.proofs.walk.Walk.hear.Statement.{statement}
 use Rattle.list.proofs.walk.Walk.hear.Tie as tie
 

@@ -1,6 +1,6 @@
 use borrow.Author.Needs.{needs}
 use borrow.Author.Tests.{eq-eqb, ne-eqb}
-use Rattle.list.specs.Reading.{whenWhole}
+use Rattle.records.specs.Reading.{whenWhole}
 use Rattle.list.specs.Walking.{heard, refusedOr}
 use Rattle.list.proofs.walk.Walk.take.Statement.{statement}
 use Rattle.list.proofs.walk.Walk.take.Tie as tie

@@ -1,0 +1,4 @@
+pub mod Kind
+pub mod Reading
+pub mod Standing
+pub mod Bytewise
