@@ -5,10 +5,9 @@ use mathlib.Core.List.{List, [], _∷_}
 use Prim.Native.Nat.{ℕ}
 use Rattle.words.specs.Said.{Said, done, refused}
 use Rattle.words.proofs.Determined.{same-answer}
-use Rattle.table.specs.Layout.{ReadsSlot, WritesSlot}
+use Rattle.table.specs.Layout.{ReadsSlot}
 use Rattle.table.specs.Form.{TellsLength, TellsOpening, TellsSlot, TellsForm}
 use Rattle.table.specs.Reply.{replySays}
-use Rattle.table.specs.Fill.{Fills}
 use Rattle.table.specs.declared.reply.Reply.{Reply}
 use Rattle.table.specs.declared.reply.Reply.the-variants.{Done, Value, Refused, RefusedWith}
 use Rattle.table.specs.declared.slot.Slot.{Slot}
@@ -44,9 +43,3 @@ well-formed-determined bytes r r′ p q = p .answer ∙ sym (q .answer)
 
 pub read-slot-determined : (slot : List ℕ) (r r′ : Slot) → ReadsSlot slot r → ReadsSlot slot r′ → r ≡ r′
 read-slot-determined slot r r′ p q = p .answer ∙ sym (q .answer)
-
-pub write-slot-determined : (value : Slot) (slot after after′ : List ℕ) → WritesSlot value slot after → WritesSlot value slot after′ → after ≡ after′
-write-slot-determined value slot after after′ p q = p .slot-after ∙ sym (q .slot-after)
-
-pub fill-determined : (bytes : List ℕ) (r r′ : Reply) (after after′ : List ℕ) → Fills bytes r after → Fills bytes r′ after′ → (r ≡ r′) × (after ≡ after′)
-fill-determined bytes r r′ after after′ p q = (same-reply r r′ (p .answer) (q .answer), p .table-after ∙ sym (q .table-after))

@@ -13,7 +13,7 @@ use Rattle.words.proofs.Digits.{lent-part, part-length}
 use Rattle.words.proofs.Written.{over-start, written-all}
 use Rattle.table.specs.Layout.{width, slotBytes}
 use Rattle.table.specs.declared.slot.Slot.{Slot}
-use Rattle.table.proofs.Chains.{slot-length}
+use Rattle.table.proofs.Widths.{slot-length}
 
 module _ (at : ℕ) (bytes : List ℕ) (h : at + width ≤ length bytes) where
   pub lent-written : (slot : Slot) (after : List ℕ) → after ≡ written 0 (slotBytes slot) (take (at + width - at) (drop at bytes))

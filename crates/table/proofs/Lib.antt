@@ -1,9 +1,8 @@
 pub mod Zeroes
-pub mod Chains
+pub mod Widths
 pub mod Cuts
 pub mod Forms
 pub mod Scans
-pub mod Fresh
 pub mod Spelled
 pub mod Tables
 pub mod Means

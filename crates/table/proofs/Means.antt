@@ -20,7 +20,7 @@ use Rattle.table.specs.Layout.{width, Fits, kindOf, claimOf, slotOf, fie
 use Rattle.table.specs.Form.{isLength, allZero, isHeader, isToken, isSlot, opening, wellFormed}
 use Rattle.table.specs.declared.slot.Slot.{Slot}
 use Rattle.table.specs.declared.slot.Slot.the-variants.{Free, Held}
-use Rattle.table.proofs.Chains.{field-length, slot-length}
+use Rattle.table.proofs.Widths.{field-length, slot-length}
 use Rattle.table.proofs.Cuts.{cut-length}
 use Rattle.table.proofs.Spelled.{Formed, blank, token, formed, slot-size, claim-again, field-again, kind-again, token-again, free-again, claim-fits, blank-kind}
 use Rattle.table.proofs.Tables.{header-length, bytes-length, cut-bytes, drop-bytes, form-size, form-header, form-slots}

@@ -19,7 +19,7 @@ use Rattle.table.specs.Layout.{width, kindOf, slotOf, slotBytes, cut, co
 use Rattle.table.specs.Form.{isLength, allZero, isHeader, isSlot, opening, wellFormed}
 use Rattle.table.specs.declared.slot.Slot.{Slot}
 use Rattle.table.specs.declared.slot.Slot.the-variants.{Free}
-use Rattle.table.proofs.Chains.{slot-length}
+use Rattle.table.proofs.Widths.{slot-length}
 use Rattle.table.proofs.Cuts.{Sized, sized}
 use Rattle.table.proofs.Forms.{opening-length}
 use Rattle.table.proofs.Spelled.{slot-spelled, zeroes-are, first-byte, longer}

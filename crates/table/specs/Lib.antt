@@ -4,4 +4,3 @@ pub mod Form
 pub mod Reply
 pub mod Fill
 pub mod Call
-pub mod Pieces

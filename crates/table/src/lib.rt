@@ -1,11 +1,9 @@
-// The token table in bytes: a slot read and written, and whether a table is well formed.
-mod filling;
+// The token table in bytes: a slot read, and whether a table is well formed.
 mod form;
 pub mod refusal;
 mod reply;
 mod slot;
 
-pub use filling::fill;
 pub use form::is_length;
 pub use form::is_slot;
 pub use form::opens;
@@ -13,7 +11,6 @@ pub use form::well_formed;
 pub use reply::Reply;
 pub use slot::Slot;
 pub use slot::read_slot;
-pub use slot::write_slot;
 
 // A slot takes so many bytes, and so does the header.
 pub const WIDTH: usize = 41;

@@ -1,4 +1,5 @@
 // Dropping a host.
+use store::write_slot;
 use table::Reply;
 use table::Slot;
 use table::WIDTH;
@@ -6,7 +7,6 @@ use table::read_slot;
 use table::refusal::MALFORMED;
 use table::refusal::NOT_WELL_FORMED;
 use table::well_formed;
-use table::write_slot;
 ghost use mathlib.Core.Path.{_≡_};
 ghost use mathlib.Core.Bool.{true};
 ghost use Prim.Native.Nat.{_+_, _≤_};

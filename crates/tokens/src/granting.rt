@@ -2,6 +2,7 @@
 use crate::survey::survey;
 use claims::Claim;
 use claims::is_malformed;
+use store::write_slot;
 use table::LIMIT;
 use table::NEXT;
 use table::Reply;
@@ -12,7 +13,6 @@ use table::refusal::MALFORMED;
 use table::refusal::NO_FREE_SLOT;
 use table::refusal::NOT_WELL_FORMED;
 use table::refusal::NUMBERS_SPENT;
-use table::write_slot;
 use words::number64;
 use writes::write_number64;
 ghost use mathlib.Core.Path.{_≡_};

@@ -1,6 +1,7 @@
 // Returning types of a token.
 use claims::Claim;
 use claims::is_unfit;
+use store::write_slot;
 use table::LIMIT;
 use table::Reply;
 use table::Slot;
@@ -11,7 +12,6 @@ use table::refusal::NO_SUCH_TOKEN;
 use table::refusal::NOT_WELL_FORMED;
 use table::refusal::TYPE_LACKING;
 use table::well_formed;
-use table::write_slot;
 ghost use mathlib.Core.Path.{_≡_};
 ghost use mathlib.Core.Bool.{true, false};
 ghost use Prim.Native.Nat.{_+_, _≤_, _<_};

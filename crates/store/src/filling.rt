@@ -1,12 +1,12 @@
 // A fresh table.
-use crate::NEXT;
-use crate::form::is_length;
-use crate::refusal::NOT_WELL_FORMED;
-use crate::reply::Reply;
+use table::NEXT;
+use table::Reply;
+use table::is_length;
+use table::refusal::NOT_WELL_FORMED;
 use writes::write_number64;
 ghost use mathlib.Core.Path.{_≡_};
 ghost use lib.ListN.{length, replicate};
 ghost use Rattle.table.specs.Fill.{Fills};
 
 fn clear(bytes: &mut [u8])
     ensures { λ _. ⌜ now (bytes .exit) ≡ replicate (length (now (bytes .entry))) 0 ⌝ }

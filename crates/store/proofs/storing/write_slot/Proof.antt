@@ -3,11 +3,11 @@ use mathlib.Core.List.{List}
 use Prim.Native.Nat.{ℕ}
 use borrow.Author.Needs.{needs}
 use Rattle.words.specs.Writing.{over}
 use Rattle.table.specs.Layout.{slotBytes}
 use Rattle.table.specs.declared.slot.Slot.{Slot}
-use Rattle.table.proofs.Chains.{slot-room, free-fields, slot-no-room}
-use Rattle.table.proofs.slot.write_slot.Statement.{statement}
-use Rattle.table.proofs.slot.write_slot.Tie as tie
+use Rattle.store.proofs.Chains.{slot-room, free-fields, slot-no-room}
+use Rattle.store.proofs.storing.write_slot.Statement.{statement}
+use Rattle.store.proofs.storing.write_slot.Tie as tie
 
 pub write-slot-spec : {M : Type 1} → statement M
 unfolding slotBytes

@@ -10,27 +10,15 @@ use Rattle.words.specs.Number.{within}
 use Rattle.words.proofs.Written.{digits-length, over-next, set-over, written-all, next-written}
 use Rattle.claims.specs.declared.claim.FileId.{FileId}
 use Rattle.claims.specs.declared.claim.Claim.{Claim}
 use Rattle.table.specs.Layout.{width, fileBytes, fieldBytes, slotBytes}
-use Rattle.table.specs.Pieces.{headBytes, restBytes}
 use Rattle.table.specs.declared.slot.Slot.{Slot}
-use Rattle.table.specs.declared.slot.Slot.the-variants.{Free, Held}
+use Rattle.table.specs.declared.slot.Slot.the-variants.{Free}
+use Rattle.table.proofs.Widths.{file-length, slot-length}
+use Rattle.store.specs.Pieces.{headBytes, restBytes}
 
 head-length : (kind types host : ℕ) → length (headBytes kind types host) ≡ 5
 unfolding headBytes
 head-length kind types host = simp (length-append, digits-length)
-
-file-length : (file : FileId) → length (fileBytes file) ≡ 12
-unfolding fileBytes
-file-length file = simp (length-append, digits-length)
-
-pub field-length : (kind number : ℕ) (claim : Claim) → length (fieldBytes kind number claim) ≡ width
-unfolding fieldBytes
-field-length kind number claim = simp (length-append, digits-length, file-length)
-
-pub slot-length : (slot : Slot) → length (slotBytes slot) ≡ width
-unfolding slotBytes
-slot-length Free = refl
-slot-length (Held number claim) = field-length 1 number claim
 
 module _ (s : List ℕ) (h : width ≤ length s) where
   pub head-written : (kind types host : ℕ) (t u : List ℕ) → t ≡ written 1 (digits 2 types) (set s 0 kind) → u ≡ written 3 (digits 2 host) t

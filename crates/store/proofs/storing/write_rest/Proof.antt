@@ -1,7 +1,7 @@
 use borrow.Author.Needs.{needs}
-use Rattle.table.proofs.Chains.{rest-written}
-use Rattle.table.proofs.slot.write_rest.Statement.{statement}
-use Rattle.table.proofs.slot.write_rest.Tie as tie
+use Rattle.store.proofs.Chains.{rest-written}
+use Rattle.store.proofs.storing.write_rest.Statement.{statement}
+use Rattle.store.proofs.storing.write_rest.Tie as tie
 
 pub write-rest-spec : {M : Type 1} → statement M
 write-rest-spec =

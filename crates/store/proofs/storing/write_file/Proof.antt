@@ -1,7 +1,7 @@
 use borrow.Author.Needs.{needs}
-use Rattle.table.proofs.Chains.{file-written}
-use Rattle.table.proofs.slot.write_file.Statement.{statement}
-use Rattle.table.proofs.slot.write_file.Tie as tie
+use Rattle.store.proofs.Chains.{file-written}
+use Rattle.store.proofs.storing.write_file.Statement.{statement}
+use Rattle.store.proofs.storing.write_file.Tie as tie
 
 pub write-file-spec : {M : Type 1} → statement M
 write-file-spec =

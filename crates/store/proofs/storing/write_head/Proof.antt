@@ -1,9 +1,9 @@
 use borrow.Author.Needs.{needs}
 use lib.ListN.{length-set}
 use Rattle.words.proofs.Written.{written-length}
-use Rattle.table.proofs.Chains.{head-written}
-use Rattle.table.proofs.slot.write_head.Statement.{statement}
-use Rattle.table.proofs.slot.write_head.Tie as tie
+use Rattle.store.proofs.Chains.{head-written}
+use Rattle.store.proofs.storing.write_head.Statement.{statement}
+use Rattle.store.proofs.storing.write_head.Tie as tie
 
 pub write-head-spec : {M : Type 1} → statement M
 write-head-spec =

@@ -5,12 +5,12 @@ use borrow.Author.Tests.{not-true, not-false}
 use lib.ListN.{length, length-set, length-replicate}
 use Rattle.words.specs.Said.{left}
 use Rattle.words.proofs.Written.{written-length}
 use Rattle.table.specs.Fill.{fillSays}
 use Rattle.table.specs.Reply.{replySays}
 use Rattle.table.proofs.Cuts.{sized}
-use Rattle.table.proofs.Fresh.{all-filled}
-use Rattle.table.proofs.filling.fill.Statement.{statement}
-use Rattle.table.proofs.filling.fill.Tie as tie
+use Rattle.store.proofs.Fresh.{all-filled}
+use Rattle.store.proofs.filling.fill.Statement.{statement}
+use Rattle.store.proofs.filling.fill.Tie as tie
 
 pub fill-spec : {M : Type 1} → statement M
 unfolding fillSays left replySays

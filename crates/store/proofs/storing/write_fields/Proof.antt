@@ -1,7 +1,7 @@
 use borrow.Author.Needs.{needs}
-use Rattle.table.proofs.Chains.{fields-written}
-use Rattle.table.proofs.slot.write_fields.Statement.{statement}
-use Rattle.table.proofs.slot.write_fields.Tie as tie
+use Rattle.store.proofs.Chains.{fields-written}
+use Rattle.store.proofs.storing.write_fields.Statement.{statement}
+use Rattle.store.proofs.storing.write_fields.Tie as tie
 
 pub write-fields-spec : {M : Type 1} → statement M
 write-fields-spec =

@@ -1,9 +1,9 @@
 use Prim.Native.Nat.{_-_}
 use native.Mathlib.Omega.{arith}
 use borrow.Author.Needs.{needs}
-use Rattle.table.proofs.Fresh.{Cleared, none-cleared, one-cleared, all-cleared}
-use Rattle.table.proofs.filling.clear.Statement.{statement}
-use Rattle.table.proofs.filling.clear.Tie as tie
+use Rattle.store.proofs.Fresh.{Cleared, none-cleared, one-cleared, all-cleared}
+use Rattle.store.proofs.filling.clear.Statement.{statement}
+use Rattle.store.proofs.filling.clear.Tie as tie
 
 abbrev Inv-loop : tie.InvT-loop
 Inv-loop bytes₀ n i₀ bytes i = Cleared bytes₀ bytes i
