@@ -8,8 +8,8 @@ use Rattle.table.specs.Fill.{filled, fillSays}
 use Rattle.table.specs.Call.{saysOf, leftOf}
 use Rattle.tokens.specs.Grant.{granted}
 use Rattle.tokens.specs.Ask.{listFor}
-use Rattle.tokens.specs.Return.{returnSays, returned}
-use Rattle.tokens.specs.DropHost.{dropSays, dropped}
+use Rattle.returns.specs.Return.{returnSays, returned}
+use Rattle.returns.specs.DropHost.{dropSays, dropped}
 use Rattle.audit.specs.Audit.{sound}
 use Rattle.access.specs.Access.{Access}
 use Rattle.desk.specs.Grant.{grantSays}

@@ -11,3 +11,5 @@ pub mod Lent
 pub mod Calls
 pub mod Ordering
 pub mod Determined
+pub mod Opened
+pub mod Day

@@ -5,3 +5,4 @@ pub mod Reply
 pub mod Fill
 pub mod Call
 pub mod Pieces
+pub mod Day

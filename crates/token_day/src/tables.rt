@@ -9,11 +9,11 @@ use audit::audit;
 use check::same;
 use claims::Claim;
 use claims::FileId;
+use returns::drop_host;
+use returns::give_back;
 use table::Reply;
 use table::fill;
 use tokens::ask;
-use tokens::drop_host;
-use tokens::give_back;
 use tokens::grant;
 use words::write_number64;
 
