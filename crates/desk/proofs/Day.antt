@@ -4,7 +4,7 @@ use Rattle.words.specs.Lines.{Hold}
 use Rattle.words.proofs.Lines.{sameValues, sameSaid, allHold, by-test}
 use Rattle.list.specs.Day.{refusedWith, realmR, realmS, headerR, objects, listE, starred as listsStarred}
 use Rattle.rights.specs.Day.{shown, gives, caller, theFile, theDirectory, by, byMode as rightsByMode, starred as rightsStarred}
-use Rattle.tokens.specs.Day.{claim, eight, header, slot, free, empty, one, two, back, three}
+use Rattle.table.specs.Day.{claim, eight, header, slot, free, empty, one, two, back, three}
 use Rattle.desk.specs.Day.{user, owner, visitor, byMode, grants, after, asks, lists, needing, judging, starred, others, types, ours, day}
 use Rattle.desk.proofs.Opened.{all}
 

@@ -14,9 +14,9 @@ use Rattle.claims.specs.Rule.{conflict}
 use Rattle.claims.specs.declared.claim.Claim.{Claim}
 use Rattle.table.specs.Layout.{tableOf}
 use Rattle.table.specs.Call.{saysOf, leftOf}
+use Rattle.table.specs.Day.{claim, empty, one, two, back, three}
 use Rattle.tokens.specs.Grant.{granted}
 use Rattle.tokens.specs.Ask.{listFor}
-use Rattle.tokens.specs.Day.{claim, empty, one, two, back, three}
 use Rattle.access.specs.Needs.{needed}
 use Rattle.access.specs.Access.{Access, accessOf, accessSays}
 use Rattle.desk.specs.Grant.{grantSays}

@@ -6,6 +6,6 @@ mod refusing;
 pub use asking::ask;
 pub use audit::audit;
 pub use granting::grant;
+pub use returns::drop_host;
+pub use returns::give_back;
 pub use store::fill;
-pub use tokens::drop_host;
-pub use tokens::give_back;

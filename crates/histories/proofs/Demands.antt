@@ -29,10 +29,10 @@ use Rattle.table.proofs.Determined.{same-reply}
 use Rattle.table.proofs.Means.{Ordered, table-bytes, bytes-formed, order-at, below-next}
 use Rattle.tokens.specs.Grant.{isInTheWay, requestSays, serveSays, roomSays}
 use Rattle.tokens.specs.Ask.{inTheWay, listFor, listSays}
-use Rattle.tokens.specs.Return.{returnSays, returned}
-use Rattle.tokens.specs.DropHost.{dropSays}
 use Rattle.tokens.proofs.Listed.{list-length}
-use Rattle.tokens.proofs.Kept.{return-order}
+use Rattle.returns.specs.Return.{returnSays, returned}
+use Rattle.returns.specs.DropHost.{dropSays}
+use Rattle.returns.proofs.Kept.{return-order}
 use Rattle.audit.specs.Audit.{sound}
 use Rattle.audit.proofs.Exactly.{tokens-apart, apart-pairs}
 use Rattle.access.specs.Access.{Access, accessSays}

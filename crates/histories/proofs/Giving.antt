@@ -20,8 +20,8 @@ use Rattle.claims.proofs.Within.{Within}
 use Rattle.table.specs.Table.{Table, limit}
 use Rattle.table.specs.declared.slot.Slot.{Slot}
 use Rattle.table.specs.declared.slot.Slot.the-variants.{Free, Held}
-use Rattle.tokens.specs.Return.{isOf, typesIn, keeps, loses, placeIn, tokenIn, returnSays, returned}
-use Rattle.tokens.proofs.Kept.{return-order}
+use Rattle.returns.specs.Return.{isOf, typesIn, keeps, loses, placeIn, tokenIn, returnSays, returned}
+use Rattle.returns.proofs.Kept.{return-order}
 use Rattle.histories.specs.History.{Return}
 use Rattle.histories.specs.Callback.{slotAt}
 use Rattle.histories.proofs.Answers.{same-values}

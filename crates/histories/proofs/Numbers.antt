@@ -33,8 +33,8 @@ use Rattle.table.specs.Fill.{fillSays}
 use Rattle.table.specs.Call.{saysOf}
 use Rattle.tokens.specs.Grant.{isFree, isInTheWay, lastNumber, roomSays, requestSays, serveSays}
 use Rattle.tokens.specs.Ask.{inTheWay, listFor, listSays}
-use Rattle.tokens.specs.Return.{isOf, typesIn, tokenIn, returnSays}
-use Rattle.tokens.specs.DropHost.{dropSays}
+use Rattle.returns.specs.Return.{isOf, typesIn, tokenIn, returnSays}
+use Rattle.returns.specs.DropHost.{dropSays}
 use Rattle.access.specs.Access.{Access, sufficient, permits, accessSays}
 use Rattle.access.specs.Needs.{needed}
 use Rattle.desk.specs.Order.{judgedSays}

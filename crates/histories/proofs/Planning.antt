@@ -27,7 +27,7 @@ use Rattle.table.specs.declared.slot.Slot.the-variants.{Free, Held}
 use Rattle.table.proofs.Means.{Ordered, order-at}
 use Rattle.table.proofs.Determined.{same-reply}
 use Rattle.tokens.specs.Grant.{isInTheWay}
-use Rattle.tokens.specs.Return.{isOf, typesIn, placeIn, tokenIn, returnSays, returned}
+use Rattle.returns.specs.Return.{isOf, typesIn, placeIn, tokenIn, returnSays, returned}
 use Rattle.audit.specs.Audit.{apart}
 use Rattle.audit.proofs.Exactly.{tokens-apart}
 use Rattle.histories.specs.History.{Return}

@@ -24,9 +24,10 @@ use Rattle.table.proofs.Cuts.{sized}
 use Rattle.table.proofs.Tables.{bytes-length}
 use Rattle.table.proofs.Ordering.{fresh-order}
 use Rattle.tokens.specs.Grant.{requestSays, serveSays, granted, grantSays as plainSays}
-use Rattle.tokens.specs.Return.{returnSays, returned}
-use Rattle.tokens.specs.DropHost.{isHosts, freed, dropSays, dropped}
-use Rattle.tokens.proofs.Kept.{passed, grant-order, return-order, drop-order}
+use Rattle.tokens.proofs.Kept.{passed, grant-order}
+use Rattle.returns.specs.Return.{returnSays, returned}
+use Rattle.returns.specs.DropHost.{isHosts, freed, dropSays, dropped}
+use Rattle.returns.proofs.Kept.{return-order, drop-order}
 use Rattle.audit.proofs.Exactly.{from-free}
 use Rattle.access.specs.Access.{Access, accessSays}
 use Rattle.desk.specs.Order.{judgedSays}

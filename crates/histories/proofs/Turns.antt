@@ -24,7 +24,7 @@ use Rattle.table.specs.declared.reply.Reply.the-variants.{Done}
 use Rattle.table.specs.declared.slot.Slot.{Slot}
 use Rattle.table.specs.declared.slot.Slot.the-variants.{Free, Held}
 use Rattle.table.proofs.Determined.{same-reply}
-use Rattle.tokens.specs.Return.{keeps, loses, tokenIn, returned}
+use Rattle.returns.specs.Return.{keeps, loses, tokenIn, returned}
 use Rattle.audit.proofs.Exactly.{tokens-apart}
 use Rattle.histories.specs.History.{Return}
 use Rattle.histories.specs.Callback.{slotAt, Item, Holds, Turn, GivenBack}

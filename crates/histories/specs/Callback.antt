@@ -12,7 +12,7 @@ use Rattle.table.specs.declared.reply.Reply.{Reply}
 use Rattle.table.specs.declared.reply.Reply.the-variants.{Done}
 use Rattle.table.specs.declared.slot.Slot.{Slot}
 use Rattle.table.specs.declared.slot.Slot.the-variants.{Free, Held}
-use Rattle.tokens.specs.Return.{Returns}
+use Rattle.returns.specs.Return.{Returns}
 use Rattle.histories.specs.History.{Return}
 
 -- the slot at a place, free past the last

@@ -20,8 +20,8 @@ use Rattle.table.specs.declared.reply.Reply.{Reply}
 use Rattle.table.specs.declared.reply.Reply.the-variants.{Done, Value}
 use Rattle.table.specs.declared.slot.Slot.the-variants.{Held}
 use Rattle.tokens.specs.Grant.{roomSays}
-use Rattle.tokens.specs.Return.{Returns}
-use Rattle.tokens.specs.DropHost.{Drops}
+use Rattle.returns.specs.Return.{Returns}
+use Rattle.returns.specs.DropHost.{Drops}
 use Rattle.audit.specs.Audit.{Audits}
 use Rattle.access.specs.Access.{Access, accessSays}
 use Rattle.desk.specs.Grant.{Grants}

@@ -8,8 +8,8 @@ use Rattle.table.specs.Fill.{Fills}
 use Rattle.table.specs.declared.reply.Reply.{Reply}
 use Rattle.table.specs.declared.reply.Reply.the-variants.{Done}
 use Rattle.tokens.specs.Grant.{Grants as GrantsUnjudged}
-use Rattle.tokens.specs.Return.{Returns}
-use Rattle.tokens.specs.DropHost.{Drops}
+use Rattle.returns.specs.Return.{Returns}
+use Rattle.returns.specs.DropHost.{Drops}
 use Rattle.access.specs.Access.{Access}
 use Rattle.desk.specs.Grant.{Grants}
 

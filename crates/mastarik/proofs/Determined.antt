@@ -5,11 +5,11 @@ use Prim.Native.Nat.{ℕ}
 use Rattle.access.specs.Access.{Access}
 use Rattle.mastarik.specs.Lists.{Checks, GivesRights, Puts, Drops}
 use Rattle.mastarik.specs.Tables.{Fills, Asks, Grants, Returns, DropsHost, Audits}
-use Rattle.mastarik.specs.declared.answer.Answer.{Answer}
-use Rattle.mastarik.specs.declared.given.Caller.{Caller}
-use Rattle.mastarik.specs.declared.given.Claim.{Claim}
-use Rattle.mastarik.specs.declared.given.Entry.{Entry}
-use Rattle.mastarik.specs.declared.given.File.{File}
+use Rattle.exchange.specs.declared.answer.Answer.{Answer}
+use Rattle.exchange.specs.declared.given.Caller.{Caller}
+use Rattle.exchange.specs.declared.given.Claim.{Claim}
+use Rattle.exchange.specs.declared.given.Entry.{Entry}
+use Rattle.exchange.specs.declared.given.File.{File}
 
 module _ (r r′ : Answer) where
   pub check-determined : (list : List ℕ) → Checks list r → Checks list r′ → r ≡ r′

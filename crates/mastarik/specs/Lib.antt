@@ -1,4 +1,2 @@
-pub mod Answer
-pub mod Given
 pub mod Lists
 pub mod Tables

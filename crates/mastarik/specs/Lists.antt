@@ -7,12 +7,12 @@ use Rattle.list.specs.Checking.{checkSays}
 use Rattle.evaluate.specs.Evaluation.{Decided}
 use Rattle.rights.specs.Deciding.{decided}
 use Rattle.edit.specs.Editing.{putting, dropping, putSays, dropSays}
-use Rattle.mastarik.specs.Answer.{answerFor, answerOf}
-use Rattle.mastarik.specs.Given.{callerOf, fileOf, guardOf, entryOf}
-use Rattle.mastarik.specs.declared.answer.Answer.{Answer}
-use Rattle.mastarik.specs.declared.given.Caller.{Caller}
-use Rattle.mastarik.specs.declared.given.Entry.{Entry}
-use Rattle.mastarik.specs.declared.given.File.{File}
+use Rattle.exchange.specs.Answer.{answerFor, answerOf}
+use Rattle.exchange.specs.Given.{callerOf, fileOf, guardOf, entryOf}
+use Rattle.exchange.specs.declared.answer.Answer.{Answer}
+use Rattle.exchange.specs.declared.given.Caller.{Caller}
+use Rattle.exchange.specs.declared.given.Entry.{Entry}
+use Rattle.exchange.specs.declared.given.File.{File}
 
 -- checking a list
 pub record Checks (list : List ℕ) (r : Answer) : Type 0 where

@@ -8,16 +8,22 @@ use Rattle.table.specs.Fill.{filled, fillSays}
 use Rattle.table.specs.Call.{saysOf, leftOf}
 use Rattle.tokens.specs.Grant.{granted}
 use Rattle.tokens.specs.Ask.{listFor}
-use Rattle.tokens.specs.Return.{returnSays, returned}
-use Rattle.tokens.specs.DropHost.{dropSays, dropped}
+use Rattle.returns.specs.Return.{returnSays, returned}
+use Rattle.returns.specs.DropHost.{dropSays, dropped}
 use Rattle.audit.specs.Audit.{sound}
-use Rattle.access.specs.Access.{Access}
+use Rattle.access.specs.Access.{Access, accessOf}
 use Rattle.desk.specs.Grant.{grantSays}
 use Rattle.desk.specs.Ask.{askSays}
-use Rattle.mastarik.specs.Answer.{answerOf, truthSays}
-use Rattle.mastarik.specs.Given.{claimOf}
-use Rattle.mastarik.specs.declared.answer.Answer.{Answer}
-use Rattle.mastarik.specs.declared.given.Claim.{Claim}
+use Rattle.exchange.specs.Answer.{answerOf, truthSays}
+use Rattle.exchange.specs.Given.{callerOf, fileOf, guardOf, claimOf}
+use Rattle.exchange.specs.declared.answer.Answer.{Answer}
+use Rattle.exchange.specs.declared.given.Caller.{Caller}
+use Rattle.exchange.specs.declared.given.Claim.{Claim}
+use Rattle.exchange.specs.declared.given.File.{File}
+
+-- what ask and grant are judged by
+unfoldable pub accessFor : List ℕ → List ℕ → Caller → File → Access
+accessFor list groups caller file = accessOf list groups (callerOf caller) (fileOf file) (guardOf file)
 
 -- filling a table
 pub record Fills (bytes : List ℕ) (r : Answer) (after : List ℕ) : Type 0 where

@@ -1,14 +1,7 @@
 // The static library: every call, for C.
-mod answer;
-mod given;
 mod lists;
 mod tables;
 
-pub use answer::Answer;
-pub use given::Caller;
-pub use given::Claim;
-pub use given::Entry;
-pub use given::File;
 pub use lists::mastarik_check;
 pub use lists::mastarik_drop_entry;
 pub use lists::mastarik_put_entry;

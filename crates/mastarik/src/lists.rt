@@ -1,18 +1,18 @@
 // The calls on an access list.
-use crate::answer::Answer;
-use crate::answer::of_edited;
-use crate::answer::of_found;
-use crate::answer::of_verdict;
-use crate::given::Caller;
-use crate::given::Entry;
-use crate::given::File;
-use crate::given::caller_of;
-use crate::given::entry_of;
-use crate::given::file_of;
-use crate::given::guard_of;
 use edit::drop_entry;
 use edit::put_entry;
 use evaluate::check_list;
+use exchange::Answer;
+use exchange::Caller;
+use exchange::Entry;
+use exchange::File;
+use exchange::caller_of;
+use exchange::entry_of;
+use exchange::file_of;
+use exchange::guard_of;
+use exchange::of_edited;
+use exchange::of_found;
+use exchange::of_verdict;
 use rights::decide;
 ghost use Rattle.mastarik.specs.Lists.{Checks, GivesRights, Puts, Drops};
 
@@ -27,13 +27,10 @@ pub extern "C" fn mastarik_check(list: &[u8]) -> Answer
 pub extern "C" fn mastarik_rights(list: &[u8], groups: &[u32], caller: Caller, file: File) -> Answer
     ensures { λ r. ⌜ GivesRights (now (list .entry)) (now (groups .entry)) caller file r ⌝ }
 {
-    of_found(decide(
-        list,
-        groups,
-        caller_of(caller),
-        file_of(file),
-        guard_of(file),
-    ))
+    let who = caller_of(caller);
+    let what = file_of(file);
+    let guard = guard_of(file);
+    of_found(decide(list, groups, who, what, guard))
 }
 
 #[no_mangle]

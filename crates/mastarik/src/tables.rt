@@ -1,16 +1,15 @@
 // The calls on a token table.
-use crate::answer::Answer;
-use crate::answer::of_reply;
-use crate::answer::of_truth;
-use crate::given::Caller;
-use crate::given::Claim;
-use crate::given::File;
-use crate::given::caller_of;
-use crate::given::claim_of;
-use crate::given::file_of;
-use crate::given::guard_of;
-ghost use Rattle.mastarik.specs.Given.{accessFor};
-ghost use Rattle.mastarik.specs.Tables.{Fills, Asks, Grants, Returns, DropsHost, Audits};
+use exchange::Answer;
+use exchange::Caller;
+use exchange::Claim;
+use exchange::File;
+use exchange::caller_of;
+use exchange::claim_of;
+use exchange::file_of;
+use exchange::guard_of;
+use exchange::of_reply;
+use exchange::of_truth;
+ghost use Rattle.mastarik.specs.Tables.{accessFor, Fills, Asks, Grants, Returns, DropsHost, Audits};
 
 #[no_mangle]
 pub extern "C" fn mastarik_fill(table: &mut [u8]) -> Answer
@@ -31,16 +30,11 @@ pub extern "C" fn mastarik_ask(
 ) -> Answer
     ensures { λ r. ⌜ Asks (now (table .entry)) claim (accessFor (now (list .entry)) (now (groups .entry)) caller file) (now (out .entry)) r (now (out .exit)) ⌝ }
 {
-    of_reply(desk::ask(
-        table,
-        claim_of(claim),
-        list,
-        groups,
-        caller_of(caller),
-        file_of(file),
-        guard_of(file),
-        out,
-    ))
+    let asked = claim_of(claim);
+    let who = caller_of(caller);
+    let what = file_of(file);
+    let guard = guard_of(file);
+    of_reply(desk::ask(table, asked, list, groups, who, what, guard, out))
 }
 
 #[no_mangle]
@@ -54,15 +48,11 @@ pub extern "C" fn mastarik_grant(
 ) -> Answer
     ensures { λ r. ⌜ Grants (now (table .entry)) claim (accessFor (now (list .entry)) (now (groups .entry)) caller file) r (now (table .exit)) ⌝ }
 {
-    of_reply(desk::grant(
-        table,
-        claim_of(claim),
-        list,
-        groups,
-        caller_of(caller),
-        file_of(file),
-        guard_of(file),
-    ))
+    let asked = claim_of(claim);
+    let who = caller_of(caller);
+    let what = file_of(file);
+    let guard = guard_of(file);
+    of_reply(desk::grant(table, asked, list, groups, who, what, guard))
 }
 
 #[no_mangle]

@@ -10,3 +10,5 @@ pub mod Lent
 pub mod Calls
 pub mod Ordering
 pub mod Determined
+pub mod Opened
+pub mod Day

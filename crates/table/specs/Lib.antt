@@ -4,3 +4,4 @@ pub mod Form
 pub mod Reply
 pub mod Fill
 pub mod Call
+pub mod Day

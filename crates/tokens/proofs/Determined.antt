@@ -7,8 +7,6 @@ use Rattle.table.specs.declared.reply.Reply.{Reply}
 use Rattle.table.proofs.Determined.{same-reply}
 use Rattle.tokens.specs.Grant.{Grants}
 use Rattle.tokens.specs.Ask.{Asks}
-use Rattle.tokens.specs.Return.{Returns}
-use Rattle.tokens.specs.DropHost.{Drops}
 
 module _ (bytes : List ℕ) (r r′ : Reply) (after after′ : List ℕ) where
   pub grant-determined : (claim : Claim) → Grants bytes claim r after → Grants bytes claim r′ after′ → (r ≡ r′) × (after ≡ after′)
@@ -16,10 +14,3 @@ module _ (bytes : List ℕ) (r r′ : Reply) (after after′ : List ℕ) where
 
   pub ask-determined : (claim : Claim) (out : List ℕ) → Asks bytes claim out r after → Asks bytes claim out r′ after′ → (r ≡ r′) × (after ≡ after′)
   ask-determined claim out p q = (same-reply r r′ (p .answer) (q .answer), p .out-after ∙ sym (q .out-after))
-
-  pub give-back-determined : (host number types : ℕ) → Returns bytes host number types r after → Returns bytes host number types r′ after′
-      → (r ≡ r′) × (after ≡ after′)
-  give-back-determined host number types p q = (same-reply r r′ (p .answer) (q .answer), p .table-after ∙ sym (q .table-after))
-
-  pub drop-host-determined : (host : ℕ) → Drops bytes host r after → Drops bytes host r′ after′ → (r ≡ r′) × (after ≡ after′)
-  drop-host-determined host p q = (same-reply r r′ (p .answer) (q .answer), p .table-after ∙ sym (q .table-after))

@@ -1,12 +1,8 @@
 pub mod Surveyed
-pub mod Sought
 pub mod Listed
 pub mod Issued
 pub mod Asked
-pub mod Returned
-pub mod Freed
 pub mod Kept
-pub mod Count
 pub mod Determined
 pub mod Opened
 pub mod Day

@@ -1,16 +1,16 @@
 -- One scan: the form, the tokens in the way, the lowest free slot. Assumes nothing.
 use mathlib.Core.Path.{_≡_, refl, sym, _∙_, ap}
-use mathlib.Core.Bool.{Bool, true, false, cond}
+use mathlib.Core.Bool.{Bool, true, false}
 use mathlib.Core.List.{List, [], _∷_, _++_}
 use Prim.Native.Nat.{ℕ, _+_, _*_, _≤_, _<_}
 use native.Mathlib.Omega.{arith}
 use borrow.Author.Tests.{eqb-true, eq-eqb, ne-eqb}
 use lib.Dec.{eqb}
-use lib.ListN.{length, take, length-append}
+use lib.ListN.{length, take}
 use lib.Seq.{take-all, length-take-le}
 use Rattle.words.specs.Test.{if_then_else_, those, placeOf}
 use Rattle.words.specs.Number.{part}
-use Rattle.words.proofs.Tests.{differ, those-append, those-few}
+use Rattle.words.proofs.Tests.{differ, those-few, counted-more}
 use Rattle.words.proofs.Found.{place-within, place-more}
 use Rattle.claims.specs.declared.claim.Claim.{Claim}
 use Rattle.table.specs.Table.{limit}
@@ -22,17 +22,6 @@ use Rattle.table.proofs.Scans.{Checked, none-checked, one-checked, one-bad, all
 use Rattle.tokens.specs.Grant.{isFree, isInTheWay}
 use Rattle.tokens.specs.Scan.{Passes, SurveysSlots, Surveys}
 use Rattle.tokens.specs.declared.survey.Seen.{Seen}
-
--- one element more among those that pass
-pub counted-more : {A : Type 0} (test : A → Bool) (xs : List A) (x : A)
-    → length (those test (xs ++ (x ∷ []))) ≡ (if test x then length (those test xs) + 1 else length (those test xs))
-unfolding those
-counted-more test xs x =
-    ap length (those-append test xs (x ∷ [])) ∙ length-append (those test xs) (cond (test x) (x ∷ []) []) ∙ go (test x)
-  where
-    go : (b : Bool) → length (those test xs) + length (cond b (x ∷ []) []) ≡ (if b then length (those test xs) + 1 else length (those test xs))
-    go true = refl
-    go false = omega arith
 
 -- the lowest free place, which is p of so many slots; n where none is free
 unfoldable pub lowest : ℕ → ℕ → ℕ → ℕ

@@ -1,11 +1,7 @@
-// The calls on a table, access apart: ask, grant, return, drop host.
+// The calls that take tokens, access apart: ask, grant.
 mod asking;
-mod dropping;
 mod granting;
-mod returning;
 mod survey;
 
 pub use asking::ask;
-pub use dropping::drop_host;
 pub use granting::grant;
-pub use returning::give_back;

@@ -1,14 +1,14 @@
 -- Both parts of a test that passed, or failed; the elements that pass a test; what holds of each element. Assumes nothing.
-use mathlib.Core.Path.{_≡_, refl, sym, ap}
+use mathlib.Core.Path.{_≡_, refl, sym, _∙_, ap}
 use mathlib.Core.Bool.{Bool, true, false, cond, not, _||_, _&&_}
 use mathlib.Core.List.{List, [], _∷_, _++_, map}
 use mathlib.Core.Logic.{_⊎_, inl, inr}
-use Prim.Native.Nat.{ℕ, zero, suc, _≤_}
+use Prim.Native.Nat.{ℕ, zero, suc, _+_, _≤_}
 use native.Mathlib.Omega.{arith}
 use borrow.Author.Tests.{ne-eqb}
 use lib.Dec.{eqb}
-use lib.ListN.{length, getD, set}
-use Rattle.words.specs.Test.{anyOf, allOf, those}
+use lib.ListN.{length, getD, set, length-append}
+use Rattle.words.specs.Test.{if_then_else_, anyOf, allOf, those}
 
 pub differ : true ≡ false → ⊥
 differ q = let z : _≡_ {A = ℕ} 0 1 = cc in omega arith
@@ -66,6 +66,16 @@ module _ {A : Type 0} (test : A → Bool) where
           → cond b (x ∷ those test (xs ++ ys)) (those test (xs ++ ys)) ≡ cond b (x ∷ those test xs) (those test xs) ++ those test ys
       go true ih = ap (λ (zs : List A). x ∷ zs) ih
       go false ih = ih
+
+  -- one element more
+  pub counted-more : (xs : List A) (x : A)
+      → length (those test (xs ++ (x ∷ []))) ≡ (if test x then length (those test xs) + 1 else length (those test xs))
+  unfolding those
+  counted-more xs x = ap length (those-append xs (x ∷ [])) ∙ length-append (those test xs) (cond (test x) (x ∷ []) []) ∙ go (test x)
+    where
+      go : (b : Bool) → length (those test xs) + length (cond b (x ∷ []) []) ≡ (if b then length (those test xs) + 1 else length (those test xs))
+      go true = refl
+      go false = omega arith
 
 -- a property of each element
 module _ {A : Type 0} (P : A → Type 0) where

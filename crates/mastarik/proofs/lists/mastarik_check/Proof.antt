@@ -1,6 +1,5 @@
-use mathlib.Core.Path.{ap, _∙_}
 use borrow.Author.Needs.{needs}
-use Rattle.mastarik.specs.Answer.{answerOf}
+use Rattle.mastarik.proofs.Carried.{checks}
 use Rattle.mastarik.proofs.lists.mastarik_check.Statement.{statement}
 use Rattle.mastarik.proofs.lists.mastarik_check.Tie as tie
 
@@ -10,4 +9,4 @@ mastarik-check-spec =
     (tie.spec
     (λ c κs. search needs)
     (λ c κs. search needs)
-    (λ c. record { answer = c .of-verdict .ensures ∙ ap answerOf (c .before .check-list .ensures .answer) }))
+    (λ c. search (checks, needs)))

@@ -11,4 +11,4 @@ mastarik-drop-entry-spec =
     (λ c κs. search needs)
     (λ c κs. search needs)
     (λ c. search needs)
-    (λ c. drops (c .before .before .before .before .before .entry-of .ensures) (c .of-edited .ensures) (c .before .before .before .drop-entry .ensures)))
+    (λ c. search (drops, needs)))

@@ -11,4 +11,4 @@ mastarik-put-entry-spec =
     (λ c κs. search needs)
     (λ c κs. search needs)
     (λ c. search needs)
-    (λ c. puts (c .before .before .before .before .before .entry-of .ensures) (c .of-edited .ensures) (c .before .before .before .put-entry .ensures)))
+    (λ c. search (puts, needs)))

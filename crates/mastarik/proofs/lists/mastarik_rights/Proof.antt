@@ -12,4 +12,4 @@ mastarik-rights-spec =
     (λ c κs. search needs)
     (λ c κs. search needs)
     (λ c κs. search needs)
-    (λ c. gives (c .before .before .before .before .before .before .before .args .caller) (c .before .before .before .before .before .before .before .args .file) (c .before .before .before .before .caller-of .ensures) (c .before .before .before .file-of .ensures) (c .before .before .guard-of .ensures) (c .of-found .ensures) (c .before .decide .ensures)))
+    (λ c. search (gives, needs)))

@@ -14,4 +14,4 @@ mastarik-ask-spec =
     (λ c κs. search needs)
     (λ c κs. search needs)
     (λ c. search needs)
-    (λ c. asks (c .before .before .before .before .before .before .before .before .before .before .before .before .before .args .caller) (c .before .before .before .before .before .before .before .before .before .before .before .before .before .args .file) (c .before .before .before .before .before .before .before .caller-of .ensures) (c .before .before .before .before .before .before .file-of .ensures) (c .before .before .before .before .before .guard-of .ensures) (c .before .before .before .before .before .before .before .before .claim-of .ensures) (c .of-reply .ensures) (c .before .before .before .ask .ensures)))
+    (λ c. search (asks, needs)))

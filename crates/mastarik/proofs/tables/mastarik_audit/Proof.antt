@@ -1,6 +1,5 @@
-use mathlib.Core.Path.{ap, _∙_}
 use borrow.Author.Needs.{needs}
-use Rattle.mastarik.specs.Answer.{answerOf, truthSays}
+use Rattle.mastarik.proofs.Carried.{audits}
 use Rattle.mastarik.proofs.tables.mastarik_audit.Statement.{statement}
 use Rattle.mastarik.proofs.tables.mastarik_audit.Tie as tie
 
@@ -10,4 +9,4 @@ mastarik-audit-spec =
     (tie.spec
     (λ c κs. search needs)
     (λ c κs. search needs)
-    (λ c. record { answer = c .of-truth .ensures ∙ ap (λ b. answerOf (truthSays b)) (c .before .audit .ensures .answer) }))
+    (λ c. search (audits, needs)))

@@ -1,6 +1,5 @@
-use mathlib.Core.Path.{ap, _∙_}
 use borrow.Author.Needs.{needs}
-use Rattle.mastarik.specs.Answer.{answerOf}
+use Rattle.mastarik.proofs.Carried.{fills}
 use Rattle.mastarik.proofs.tables.mastarik_fill.Statement.{statement}
 use Rattle.mastarik.proofs.tables.mastarik_fill.Tie as tie
 
@@ -11,4 +10,4 @@ mastarik-fill-spec =
     (λ c κs. search needs)
     (λ c κs. search needs)
     (λ c. search needs)
-    (λ c. record { answer = c .of-reply .ensures ∙ ap answerOf (c .before .before .before .fill .ensures .answer); table-after = c .before .before .before .fill .ensures .table-after }))
+    (λ c. search (fills, needs)))

@@ -1,6 +1,5 @@
-use mathlib.Core.Path.{ap, _∙_}
 use borrow.Author.Needs.{needs}
-use Rattle.mastarik.specs.Answer.{answerOf}
+use Rattle.mastarik.proofs.Carried.{returns}
 use Rattle.mastarik.proofs.tables.mastarik_return.Statement.{statement}
 use Rattle.mastarik.proofs.tables.mastarik_return.Tie as tie
 
@@ -11,4 +10,4 @@ mastarik-return-spec =
     (λ c κs. search needs)
     (λ c κs. search needs)
     (λ c. search needs)
-    (λ c. record { answer = c .of-reply .ensures ∙ ap answerOf (c .before .before .before .give-back .ensures .answer); table-after = c .before .before .before .give-back .ensures .table-after }))
+    (λ c. search (returns, needs)))

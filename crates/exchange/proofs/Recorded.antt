@@ -1,0 +1,11 @@
+-- An answer with the deciding record beside it. Assumes nothing.
+use mathlib.Core.Path.{_≡_, refl}
+use Prim.Native.Nat.{ℕ}
+use Rattle.words.specs.Said.{Said, done, refused}
+use Rattle.exchange.specs.Answer.{answerFor, answerOf}
+
+pub with-record : (said : Said) (start length : ℕ)
+    → record { refused = answerOf said .refused; value = answerOf said .value; detail = answerOf said .detail; start = start; length = length } ≡ answerFor said start length
+unfolding answerOf answerFor
+with-record (done values) start length = refl
+with-record (refused number values) start length = refl

@@ -1,0 +1,4 @@
+pub mod Return
+pub mod DropHost
+pub mod Day
+pub mod Slots
