@@ -1,15 +1,13 @@
 -- How an edit ends: refused by its plan, for room, or with the new list written. Assumes nothing.
 use mathlib.Core.Path.{_≡_, refl, sym, _∙_, ap, subst}
-use mathlib.Core.List.{List, [], _∷_}
+use mathlib.Core.List.{List, []}
 use mathlib.Core.Bool.{true}
-use Prim.Native.Nat.{ℕ, _+_, _≤_, _<_}
+use Prim.Native.Nat.{ℕ, _+_, _<_}
 use native.Mathlib.Omega.{arith}
 use lib.ListN.{length}
 use Rattle.words.specs.Said.{Said, done, refused, andThen, left}
 use Rattle.words.specs.Number.{Bytes}
 use Rattle.list.specs.Kind.{size as sizeOf}
-use Rattle.list.specs.Checking.{checkSays}
-use Rattle.list.specs.declared.records.Record.{Record}
 use Rattle.entry.specs.Entry.{isEntry, recordFor}
 use Rattle.entry.specs.Spelling.{spelled}
 use Rattle.entry.specs.NewList.{putting, dropping}

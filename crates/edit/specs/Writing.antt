@@ -1,7 +1,6 @@
 -- Contracts of the crate's own functions: writing a new list that was judged.
 use mathlib.Core.Path.{_≡_}
 use mathlib.Core.List.{List, _++_}
-use mathlib.Core.Bool.{true}
 use Prim.Native.Nat.{ℕ, _+_, _≤_}
 use lib.ListN.{length, take, drop}
 use Rattle.words.specs.Said.{left}

@@ -13,7 +13,7 @@ use Rattle.evaluate.specs.Evaluation.{verdictSays, Checks}
 use Rattle.evaluate.specs.declared.verdict.Verdict.{Verdict}
 use Rattle.evaluate.specs.declared.verdict.Verdict.the-variants.{Fine, Refused as Faulty}
 use Rattle.entry.specs.Entry.{isEntry}
-use Rattle.entry.specs.NewList.{putting, dropping, hasEntry}
+use Rattle.entry.specs.NewList.{hasEntry}
 use Rattle.entry.specs.Plan.{putJudged, dropJudged, planSays, PlansPut, PlansDrop}
 use Rattle.entry.specs.Spot.{putVerdict, dropVerdict}
 use Rattle.entry.specs.declared.entries.Entry.{Entry}

@@ -15,8 +15,7 @@ use Rattle.entry.specs.NewList.{putting, dropping, hasEntry}
 use Rattle.entry.specs.Plan.{putJudged, dropJudged, spotFor, planSays, PlansPut, PlansDrop}
 use Rattle.entry.specs.declared.entries.Entry.{Entry}
 use Rattle.entry.specs.declared.spot.Spot.{Spot}
-use Rattle.entry.specs.declared.planning.Plan.{Plan}
-use Rattle.entry.specs.declared.planning.Plan.the-variants.{Splice, Refused, RefusedAt}
+use Rattle.entry.specs.declared.planning.Plan.the-variants.{Splice}
 
 -- nothing was refused on the way to an answer
 pub past : (first next : Said) (v : List ℕ) → done v ≡ andThen first next → (w : List ℕ) × ((first ≡ done w) × (done v ≡ next))

@@ -1,4 +1,3 @@
-use mathlib.Core.Path.{refl, sym}
 use borrow.Author.Tests.{lt-ltb, le-ltb}
 use Rattle.edit.proofs.writing.realm_length.Statement.{statement}
 use Rattle.edit.proofs.writing.realm_length.Tie as tie
