@@ -13,18 +13,18 @@ use Rattle.list.specs.Fault.{noRecord}
 use Rattle.list.specs.Checking.{checkSays}
 use Rattle.records.specs.declared.records.Record.{Record}
 use Rattle.records.proofs.Ordered.{rises-asym, Alike, alike-not}
-use Rattle.edit.specs.Entry.{isEntry, recordFor}
-use Rattle.edit.specs.Spelling.{spell}
-use Rattle.edit.specs.Editing.{recordsIn, sameEntry, putIn, dropFrom, putting, dropping, hasEntry}
-use Rattle.edit.specs.Spot.{InWidth}
-use Rattle.edit.specs.declared.entry.Entry.{Entry}
-use Rattle.edit.proofs.Lengths.{is-above}
-use Rattle.edit.proofs.Spelled.{Fitting}
-use Rattle.edit.proofs.Cuts.{read-again, spelled-whole}
-use Rattle.edit.proofs.Sorted.{in-order-all, alike-same}
-use Rattle.edit.proofs.Splits.{earlier, same, later, put-parts, differs, earlier-differ, later-differ, split, dropped}
-use Rattle.edit.proofs.Verdicts.{fit-put, fit-drop}
-use Rattle.edit.proofs.Located.{entry-fits}
+use Rattle.entry.specs.Entry.{isEntry, recordFor}
+use Rattle.entry.specs.Spelling.{spell}
+use Rattle.entry.specs.NewList.{recordsIn, sameEntry, putIn, dropFrom, putting, dropping, hasEntry}
+use Rattle.entry.specs.Spot.{InWidth}
+use Rattle.entry.specs.declared.entries.Entry.{Entry}
+use Rattle.entry.proofs.Lengths.{is-above}
+use Rattle.entry.proofs.Spelled.{Fitting}
+use Rattle.entry.proofs.Cuts.{read-again, spelled-whole}
+use Rattle.entry.proofs.Sorted.{in-order-all, alike-same}
+use Rattle.entry.proofs.Splits.{earlier, same, later, put-parts, differs, earlier-differ, later-differ, split, dropped}
+use Rattle.entry.proofs.Verdicts.{fit-put, fit-drop}
+use Rattle.entry.proofs.Located.{entry-fits}
 
 itself : (r : Record) → Alike r r
 itself r = record { kind = refl; realm = refl; id = refl }

@@ -4,8 +4,8 @@ use mathlib.Core.List.{List}
 use Prim.Native.Nat.{ℕ}
 use Rattle.words.specs.Said.{Said}
 use Rattle.words.proofs.Determined.{same-answer, unsaid}
+use Rattle.entry.specs.declared.entries.Entry.{Entry}
 use Rattle.edit.specs.Editing.{editedSays, Puts, Drops}
-use Rattle.edit.specs.declared.entry.Entry.{Entry}
 use Rattle.edit.specs.declared.editing.Edited.{Edited}
 use Rattle.edit.specs.declared.editing.Edited.the-variants.{Length, Refused, RefusedAt}
 

@@ -1,13 +1,8 @@
 -- All definitions of this crate and of those below it, opened by one name. Assumes nothing.
-use Rattle.words.specs.Test.{those}
-use Rattle.words.specs.Writing.{digits}
-use Rattle.words.specs.Realm.{realmBytes}
-use Rattle.list.proofs.Opened.{all as lists}
-use Rattle.edit.specs.Entry.{isEntry, recordFor}
-use Rattle.edit.specs.Spelling.{partOf, spelled, spell}
-use Rattle.edit.specs.Editing.{recordsIn, sameEntry, putIn, dropFrom, putting, dropping, hasEntry, roomSays, newSays, putSays, dropSays}
+use Rattle.entry.proofs.Opened.{all as entries}
+use Rattle.edit.specs.Editing.{roomSays, putSays, dropSays}
 
 -- one name that opens every definition, for what is computed
 unfoldable pub all : Unit {0}
-unfolding lists those digits realmBytes isEntry recordFor partOf spelled spell recordsIn sameEntry putIn dropFrom putting dropping hasEntry roomSays newSays putSays dropSays
+unfolding entries roomSays putSays dropSays
 all = tt

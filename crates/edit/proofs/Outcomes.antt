@@ -1,138 +1,125 @@
--- How an edit ends: refused by the old list, by its kind, for nothing to drop, by the new list, for room, or with the new list written.
--- Assumes nothing.
-use mathlib.Core.Path.{_≡_, refl, sym, _∙_, ap}
-use mathlib.Core.List.{List, [], _∷_}
-use mathlib.Core.Bool.{Bool, true, false, not}
-use Prim.Native.Nat.{ℕ, _+_, _≤_, _<_}
-use borrow.Author.Tests.{ltb-false, lt-ltb, not-true}
-use lib.Dec.{ltb}
-use lib.ListN.{length, drop}
+-- How an edit ends: refused by its plan, for room, or with the new list written. Assumes nothing.
+use mathlib.Core.Path.{_≡_, refl, sym, _∙_, ap, subst}
+use mathlib.Core.List.{List, []}
+use mathlib.Core.Bool.{true}
+use Prim.Native.Nat.{ℕ, _+_, _<_}
+use native.Mathlib.Omega.{arith}
+use lib.ListN.{length}
 use Rattle.words.specs.Said.{Said, done, refused, andThen, left}
-use Rattle.records.specs.Kind.{size}
-use Rattle.list.specs.Checking.{checkSays}
-use Rattle.records.specs.declared.records.Record.{Record}
-use Rattle.list.proofs.Passed.{passes}
-use Rattle.evaluate.specs.Evaluation.{verdictSays, Checks}
-use Rattle.evaluate.specs.declared.verdict.Verdict.{Verdict}
-use Rattle.evaluate.specs.declared.verdict.Verdict.the-variants.{Fine, Refused as Faulty}
-use Rattle.edit.specs.Entry.{isEntry}
-use Rattle.edit.specs.Spelling.{spelled}
-use Rattle.edit.specs.Editing.{putting, dropping, hasEntry, newSays, putSays, dropSays, editedSays, Puts, Drops}
-use Rattle.edit.specs.Spot.{putVerdict, dropVerdict, splice, Writes}
-use Rattle.edit.specs.declared.entry.Entry.{Entry}
+use Rattle.words.specs.Number.{Bytes}
+use Rattle.records.specs.Kind.{size as sizeOf}
+use Rattle.entry.specs.Entry.{isEntry, recordFor}
+use Rattle.entry.specs.Spelling.{spelled}
+use Rattle.entry.specs.NewList.{putting, dropping}
+use Rattle.entry.specs.Plan.{putJudged, dropJudged, spotFor, planSays, PlansPut, PlansDrop}
+use Rattle.entry.specs.declared.entries.Entry.{Entry}
+use Rattle.entry.specs.declared.spot.Spot.{Spot}
+use Rattle.entry.specs.declared.planning.Plan.{Plan}
+use Rattle.entry.specs.declared.planning.Plan.the-variants.{Splice, Refused as Stopped, RefusedAt as StoppedAt}
+use Rattle.entry.proofs.Lengths.{is-above}
+use Rattle.entry.proofs.Parts.{before-spot, behind-spot, inside, put-spelled, drop-spelled, put-length, drop-length}
+use Rattle.entry.proofs.Planned.{stopped, Planned, put-planned, drop-planned}
+use Rattle.edit.specs.Editing.{roomSays, putSays, dropSays, editedSays, Puts, Drops}
+use Rattle.edit.specs.Writing.{splice, Fits, Writes}
 use Rattle.edit.specs.declared.editing.Edited.{Edited}
 use Rattle.edit.specs.declared.editing.Edited.the-variants.{Refused, RefusedAt}
-use Rattle.edit.specs.declared.spot.Spot.{Spot}
-use Rattle.edit.proofs.Located.{Located, entered, put-bytes, drop-bytes, put-judged, drop-judged, told}
 
--- what is said of a new list, judged and then written
-module _ (new out : List ℕ) where
-  record Ends (says : Said) (r : Edited) (after : List ℕ) : Type 0 where
-    answer : editedSays r ≡ says
-    out-after : after ≡ left says new out
+-- what is said of a new list that was judged, and what is left of the buffer
+module _ (judged : Said) (new out : List ℕ) where
+  record Ends (r : Edited) (after : List ℕ) : Type 0 where
+    answer : editedSays r ≡ andThen judged (roomSays new out)
+    out-after : after ≡ left (andThen judged (roomSays new out)) new out
 
-  refused-at : {says : Said} {number place : ℕ} → says ≡ refused number (place ∷ []) → Ends says (RefusedAt number place) out
-  unfolding editedSays left
-  refused-at q = record { answer = sym q; out-after = rw q refl }
+  -- refused by its plan
+  module _ (v : List ℕ) {p : Plan} {number : ℕ} (says : planSays p ≡ andThen judged (done v)) where
+    refused-by : p ≡ Stopped number → Ends (Refused number) out
+    unfolding editedSays planSays left andThen
+    refused-by is = let q = stopped judged v (ap planSays (sym is) ∙ says) in record { answer = rw q refl; out-after = rw q refl }
 
-  refused-by : {says : Said} {number : ℕ} → says ≡ refused number [] → Ends says (Refused number) out
-  unfolding editedSays left
-  refused-by q = record { answer = sym q; out-after = rw q refl }
+    refused-at : {place : ℕ} → p ≡ StoppedAt number place → Ends (RefusedAt number place) out
+    unfolding editedSays planSays left andThen
+    refused-at is = let q = stopped judged v (ap planSays (sym is) ∙ says) in record { answer = rw q refl; out-after = rw q refl }
 
-  new-refused : {number place : ℕ} → checkSays new ≡ refused number (place ∷ []) → Ends (newSays new out) (RefusedAt number place) out
-  unfolding newSays andThen
-  new-refused q = refused-at (rw q refl)
+  -- or written
+  written : {values : List ℕ} {r : Edited} {after : List ℕ} → judged ≡ done values → Writes new out r after → Ends r after
+  unfolding andThen
+  written q w = record { answer = rw q (w .answer); out-after = rw q (w .out-after) }
 
-  new-written : {r : Edited} {after : List ℕ} → checkSays new ≡ done [] → Writes new out r after → Ends (newSays new out) r after
-  unfolding newSays andThen
-  new-written q w = record { answer = rw q (w .answer); out-after = rw q (w .out-after) }
-
-pub short-list : (list : List ℕ) → checkSays list ≡ done [] → length list ≤ 4096
-short-list list passing = ltb-false 4096 (length list) (passes list passing .short)
-
--- the old list, checked
-module _ {list : List ℕ} {v : Verdict} (checks : Checks list v) where
-  old-says : {number place : ℕ} → v ≡ Faulty number place → checkSays list ≡ refused number (place ∷ [])
-  unfolding verdictSays
-  old-says is = sym (checks .answer) ∙ rw is refl
-
-  pub checked : v ≡ Fine → checkSays list ≡ done []
-  unfolding verdictSays
-  checked is = sym (checks .answer) ∙ rw is refl
-
--- an edit judged by its new list
-module _ {list : List ℕ} {entry : Entry} {r : Record} {s : Spot} (located : Located list entry r s) (out : List ℕ) where
-  put-new : putSays list entry out ≡ newSays (putting list entry) out
-  unfolding putSays andThen
-  put-new = rw (located .passing, entered located) refl
-
-  drop-new : 0 < s .size → dropSays list entry out ≡ newSays (dropping list entry) out
-  unfolding dropSays andThen
-  drop-new some =
-      let there : hasEntry list entry ≡ true = sym (told located) ∙ lt-ltb 0 (s .size) some in
-      rw (located .passing, entered located, there) refl
-
-  drop-none : s .size ≡ 0 → dropSays list entry out ≡ refused 20 []
-  unfolding dropSays andThen
-  drop-none z =
-      let none : hasEntry list entry ≡ false = sym (told located) ∙ ap (ltb 0) z in
-      rw (located .passing, entered located, none) refl
-
-module _ {list : List ℕ} {entry : Entry} {out : List ℕ} where
-  puts : {r : Edited} {after : List ℕ} → Ends (putting list entry) out (putSays list entry out) r after → Puts list entry out r after
+module _ {list : List ℕ} {entry : Entry} {out : List ℕ} {d : Edited} {after : List ℕ} where
+  puts : Ends (putJudged list entry) (putting list entry) out d after → Puts list entry out d after
+  unfolding putSays
   puts e = record { answer = e .answer; out-after = e .out-after }
 
-  drops : {r : Edited} {after : List ℕ} → Ends (dropping list entry) out (dropSays list entry out) r after → Drops list entry out r after
+  drops : Ends (dropJudged list entry) (dropping list entry) out d after → Drops list entry out d after
+  unfolding dropSays
   drops e = record { answer = e .answer; out-after = e .out-after }
 
-  -- refused by the old list
-  module _ {v : Verdict} {number place : ℕ} (checks : Checks list v) (is : v ≡ Faulty number place) where
-    pub put-old : Puts list entry out (RefusedAt number place) out
-    unfolding putSays andThen
-    put-old = puts (refused-at (putting list entry) out (rw (old-says checks is) refl))
+module _ {list : List ℕ} {entry : Entry} where
+  module _ {out : List ℕ} {p : Plan} {number : ℕ} where
+    pub put-refused : PlansPut list entry p → p ≡ Stopped number → Puts list entry out (Refused number) out
+    unfolding planSays
+    put-refused plans is = puts (refused-by (putJudged list entry) (putting list entry) out _ (plans .answer) is)
 
-    pub drop-old : Drops list entry out (RefusedAt number place) out
-    unfolding dropSays andThen
-    drop-old = drops (refused-at (dropping list entry) out (rw (old-says checks is) refl))
+    pub put-refused-at : {place : ℕ} → PlansPut list entry p → p ≡ StoppedAt number place → Puts list entry out (RefusedAt number place) out
+    unfolding planSays
+    put-refused-at plans is = puts (refused-at (putJudged list entry) (putting list entry) out _ (plans .answer) is)
 
-  -- refused for its kind
-  module _ (passing : checkSays list ≡ done []) {b : Bool} (told : b ≡ isEntry (entry .kind)) (other : not b ≡ true) where
-    pub put-kind : Puts list entry out (RefusedAt 12 0) out
-    unfolding putSays andThen
-    put-kind = puts (refused-at (putting list entry) out (rw (passing, sym told ∙ not-true b other) refl))
+    pub drop-refused : PlansDrop list entry p → p ≡ Stopped number → Drops list entry out (Refused number) out
+    unfolding planSays
+    drop-refused plans is = drops (refused-by (dropJudged list entry) (dropping list entry) out _ (plans .answer) is)
 
-    pub drop-kind : Drops list entry out (RefusedAt 12 0) out
-    unfolding dropSays andThen
-    drop-kind = drops (refused-at (dropping list entry) out (rw (passing, sym told ∙ not-true b other) refl))
+    pub drop-refused-at : {place : ℕ} → PlansDrop list entry p → p ≡ StoppedAt number place → Drops list entry out (RefusedAt number place) out
+    unfolding planSays
+    drop-refused-at plans is = drops (refused-at (dropJudged list entry) (dropping list entry) out _ (plans .answer) is)
 
-  module _ {r : Record} {s : Spot} (located : Located list entry r s) where
-    pub drop-nothing : s .size ≡ 0 → Drops list entry out (Refused 20) out
-    drop-nothing z = drops (refused-by (dropping list entry) out (drop-none located out z))
+  module _ (bytes : Bytes list) {s : Spot} {m n : ℕ} where
+    module _ {judged : Said} {new : List ℕ} {width : ℕ} (planned : Planned list entry judged new width s m n) where
+      above : 1 < recordFor entry .kind
+      unfolding recordFor
+      above = is-above (entry .kind) (planned .passes .is-entry)
 
-    -- by the verdict on the new list
-    module _ {v : Verdict} (n : ℕ) where
-      module _ (judged : verdictSays v ≡ putVerdict list r (s .at) n) (e : n + s .size ≡ length list + r .size) where
-        pub put-refused : {number place : ℕ} → v ≡ Faulty number place → Puts list entry out (RefusedAt number place) out
-        unfolding verdictSays
-        put-refused is =
-            let says = put-judged located n e ∙ sym judged ∙ ap verdictSays is in
-            puts (rw (put-new located out) (new-refused (putting list entry) out says))
+      fits : length new + spotFor list (recordFor entry) .size ≡ length list + width → Fits list s m n
+      fits e =
+          let w = ap (λ (s : Spot). s .size) (planned .spot) in
+          record {
+            inside = rw (planned .spot) (inside list bytes (planned .passes .old) (recordFor entry) above);
+            long = omega (arith, e, w, planned .long, planned .wide);
+          }
 
-        pub put-written : {d : Edited} {after : List ℕ} → v ≡ Fine → Writes (splice list s (spelled r)) out d after → Puts list entry out d after
-        unfolding verdictSays
-        put-written is w =
-            let says = put-judged located n e ∙ sym judged ∙ ap verdictSays is in
-            puts (rw (put-new located out) (new-written (putting list entry) out says (rw (put-bytes located) at w)))
+      -- the new lists as they are written
+      put-bytes : splice list s (spelled (recordFor entry)) ≡ putting list entry
+      unfolding splice putting
+      put-bytes =
+          rw (planned .spot, before-spot list bytes (planned .passes .old) (recordFor entry) above, behind-spot list bytes (planned .passes .old) (recordFor entry) above)
+          (sym (put-spelled list bytes (planned .passes .old) (recordFor entry) above))
 
-      module _ (judged : verdictSays v ≡ dropVerdict (entry .kind) (s .at) n) (e : n + s .size ≡ length list) (some : 0 < s .size) where
-        pub drop-refused : {number place : ℕ} → v ≡ Faulty number place → Drops list entry out (RefusedAt number place) out
-        unfolding verdictSays
-        drop-refused is =
-            let says = drop-judged located n e ∙ sym judged ∙ ap verdictSays is in
-            drops (rw (drop-new located out some) (new-refused (dropping list entry) out says))
+      drop-bytes : splice list s [] ≡ dropping list entry
+      unfolding splice dropping
+      drop-bytes =
+          rw (planned .spot, before-spot list bytes (planned .passes .old) (recordFor entry) above, behind-spot list bytes (planned .passes .old) (recordFor entry) above)
+          (sym (drop-spelled list bytes (planned .passes .old) (recordFor entry) above))
 
-        pub drop-written : {d : Edited} {after : List ℕ} → v ≡ Fine → Writes (splice list s []) out d after → Drops list entry out d after
-        unfolding verdictSays
-        drop-written is w =
-            let says = drop-judged located n e ∙ sym judged ∙ ap verdictSays is in
-            drops (rw (drop-new located out some) (new-written (dropping list entry) out says (rw (drop-bytes located) at w)))
+    module _ {p : Plan} (plans : PlansPut list entry p) (is : p ≡ Splice s m n) where
+      put-plan : Planned list entry (putJudged list entry) (putting list entry) (sizeOf (entry .kind)) s m n
+      put-plan = put-planned (subst (PlansPut list entry) is plans)
+
+      pub put-fits : Fits list s m n × (isEntry (entry .kind) ≡ true) × (m ≡ sizeOf (entry .kind))
+      unfolding putting recordFor
+      put-fits =
+          (fits put-plan (put-length list bytes (put-plan .passes .old) (recordFor entry) (above put-plan)), put-plan .passes .is-entry, put-plan .wide)
+
+      pub put-written : {out : List ℕ} {d : Edited} {after : List ℕ} → Writes (splice list s (spelled (recordFor entry))) out d after → Puts list entry out d after
+      put-written {out} w = puts (written (putJudged list entry) (putting list entry) out (put-plan .passed) (rw (put-bytes put-plan) at w))
+
+    module _ {p : Plan} (plans : PlansDrop list entry p) (is : p ≡ Splice s m n) where
+      drop-plan : Planned list entry (dropJudged list entry) (dropping list entry) 0 s m n
+      drop-plan = drop-planned (subst (PlansDrop list entry) is plans)
+
+      pub drop-fits : Fits list s 0 n
+      unfolding dropping
+      drop-fits =
+          let l = drop-length list bytes (drop-plan .passes .old) (recordFor entry) (above drop-plan) in
+          subst (λ (k : ℕ). Fits list s k n) (drop-plan .wide) (fits drop-plan (omega (arith, l)))
+
+      pub drop-written : {out : List ℕ} {d : Edited} {after : List ℕ} → Writes (splice list s []) out d after → Drops list entry out d after
+      drop-written {out} w = drops (written (dropJudged list entry) (dropping list entry) out (drop-plan .passed) (rw (drop-bytes drop-plan) at w))

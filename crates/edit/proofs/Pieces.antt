@@ -1,23 +1,25 @@
--- A list written piece by piece: what stands before a record, the record, what stands after it. Assumes nothing.
+-- What is written: a copy, and the record of an entry part by part. Assumes nothing.
 use mathlib.Core.Path.{_≡_, refl, sym, _∙_, ap}
 use mathlib.Core.List.{List, [], _∷_, _++_, append-assoc, append-nil}
 use mathlib.Core.Bool.{Bool, true, false}
 use Prim.Native.Nat.{ℕ, _+_, _-_, _≤_, _<_}
 use native.Mathlib.Omega.{arith}
 use borrow.Author.Tests.{eq-eqb, ne-eqb}
+use lib.Dec.{eqb, ltb}
 use lib.ListN.{length, take, drop, set, length-append, length-drop, drop-of-length-le}
 use lib.Seq.{take-all, take-length, drop-drop}
 use Rattle.words.specs.Test.{if_then_else_}
 use Rattle.words.specs.Number.{within}
 use Rattle.words.specs.Writing.{digits, over, written}
-use Rattle.words.specs.Realm.{realmBytes}
+use Rattle.words.specs.Realm.{zeroRealm, realmBytes}
 use Rattle.words.proofs.Written.{over-length, over-next, over-none, set-over, written-all}
-use Rattle.records.specs.Kind.{bodyOf, size}
+use Rattle.records.specs.Kind.{bodyOf, size as sizeOf}
 use Rattle.records.specs.declared.records.Record.{Record}
-use Rattle.edit.specs.Entry.{isEntry}
-use Rattle.edit.specs.Spelling.{partOf, spelled}
-use Rattle.edit.proofs.Lengths.{rights-is, size-is}
-use Rattle.edit.proofs.Spelled.{part-whole, length-a, length-b}
+use Rattle.entry.specs.Entry.{isEntry, recordFor}
+use Rattle.entry.specs.Spelling.{partOf, spelled}
+use Rattle.entry.specs.declared.entries.Entry.{Entry}
+use Rattle.entry.proofs.Lengths.{rights-is, size-is, realm-by-size}
+use Rattle.entry.proofs.Spelled.{part-whole, length-a, length-b, spelled-length}
 
 -- what a copy into the part from a place on leaves
 pub copied : (at : ℕ) (piece out after : List ℕ) → at + length piece ≤ length out
@@ -47,7 +49,7 @@ next-piece : (at m n : ℕ) (xs ys out : List ℕ) → length xs ≡ m → lengt
 next-piece at m n xs ys out l k h =
     written-all (at + m) ys (over at xs out) (omega (arith, over-length at xs out (omega arith))) ∙ over-next at m xs ys out l (omega arith)
 
-module _ (r : Record) (at : ℕ) (out : List ℕ) (entry : isEntry (r .kind) ≡ true) (room : at + size (r .kind) ≤ length out) where
+module _ (r : Record) (at : ℕ) (out : List ℕ) (entry : isEntry (r .kind) ≡ true) (room : at + sizeOf (r .kind) ≤ length out) where
   abbrev k : ℕ
   k = r .kind
 
@@ -80,6 +82,41 @@ module _ (r : Record) (at : ℕ) (out : List ℕ) (entry : isEntry (r .kind) ≡
   unfolding spelled
   all-spelled = rw (part-whole (bodyOf k .rights) (r .rights ∷ []) (rw (rights-is k entry) refl)) (ap (λ (xs : List ℕ). k ∷ xs) (append-assoc a b (r .rights ∷ [])))
 
-  pub record-written : (n i : ℕ) → n ≡ bodyOf k .realm → i ≡ bodyOf k .id
-      → set (written (at + 1 + n) (partOf i (digits 4 (r .id))) (written (at + 1) (partOf n (realmBytes (r .realm))) (set out at k))) (at + 1 + n + i) (r .rights) ≡ over at (spelled r) out
-  record-written n i p q = rw (p, q, kind-first, realm-next, id-next, rights-last) (ap (λ (xs : List ℕ). over at xs out) all-spelled)
+  record-written : set (written (at + 1 + bodyOf k .realm) b (written (at + 1) a (set out at k))) (at + 1 + bodyOf k .realm + bodyOf k .id) (r .rights) ≡ over at (spelled r) out
+  record-written = rw (kind-first, realm-next, id-next, rights-last) (ap (λ (xs : List ℕ). over at xs out) all-spelled)
+
+-- what a kind has not is not written, whatever it is
+unwritten : {A : Type 0} (n : ℕ) (spelling : A → List ℕ) (none x : A) → partOf n (spelling x) ≡ partOf n (spelling (if eqb n 0 then none else x))
+unfolding partOf
+unwritten n spelling none x = go (eqb n 0)
+  where
+    go : (t : Bool) → (if t then [] else spelling x) ≡ (if t then [] else spelling (if t then none else x))
+    go true = refl
+    go false = refl
+
+pub record-length : (entry : Entry) {size : ℕ} → size ≡ sizeOf (entry .kind) → length (spelled (recordFor entry)) ≡ size
+unfolding recordFor
+record-length entry sized = spelled-length (recordFor entry) ∙ sym sized
+
+-- an entry's record, from the numbers as they were given
+module _ (entry : Entry) {size : ℕ} (is-entry : isEntry (entry .kind) ≡ true) (sized : size ≡ sizeOf (entry .kind)) {n : ℕ} (realm : n ≡ (if ltb size 18 then 0 else 16)) where
+  abbrev given : Record
+  given = record { kind = entry .kind; realm = entry .realm; id = entry .id; rights = entry .rights; size = size }
+
+  given-spelled : spelled given ≡ spelled (recordFor entry)
+  unfolding spelled recordFor
+  given-spelled = rw (unwritten (bodyOf (entry .kind) .realm) realmBytes zeroRealm (entry .realm), unwritten (bodyOf (entry .kind) .id) (digits 4) 0 (entry .id)) refl
+
+  realm-is : n ≡ bodyOf (entry .kind) .realm
+  realm-is = realm ∙ ap (λ (m : ℕ). if ltb m 18 then 0 else 16) sized ∙ sym (realm-by-size (entry .kind) is-entry)
+
+  id-is : size - 2 - n ≡ bodyOf (entry .kind) .id
+  id-is = omega (arith, sized, realm-is, size-is (entry .kind) is-entry)
+
+  pub has-realm : 2 + n ≤ size
+  has-realm = omega (arith, sized, realm-is, size-is (entry .kind) is-entry)
+
+  pub entry-written : (at : ℕ) (out : List ℕ) → at + size ≤ length out
+      → set (written (at + 1 + n) (partOf (size - 2 - n) (digits 4 (entry .id))) (written (at + 1) (partOf n (realmBytes (entry .realm))) (set out at (entry .kind)))) (at + 1 + n + (size - 2 - n)) (entry .rights) ≡ over at (spelled (recordFor entry)) out
+  entry-written at out room =
+      rw (id-is, realm-is) (record-written given at out is-entry (rw sized at room) ∙ ap (λ (xs : List ℕ). over at xs out) given-spelled)

@@ -7,8 +7,9 @@ use Rattle.words.specs.Lines.{Line, line}
 use Rattle.words.specs.Realm.{zeroRealm, unknownRealm}
 use Rattle.words.specs.declared.realm.Realm.{Realm}
 use Rattle.list.specs.Day.{realmR, realmS, headerR, objects, listE}
-use Rattle.edit.specs.Editing.{putting, dropping, putSays, dropSays}
-use Rattle.edit.specs.declared.entry.Entry.{Entry}
+use Rattle.entry.specs.NewList.{putting, dropping}
+use Rattle.entry.specs.declared.entries.Entry.{Entry}
+use Rattle.edit.specs.Editing.{putSays, dropSays}
 
 unfoldable pub shown : Said → List ℕ → Said
 shown (done values) new = done new

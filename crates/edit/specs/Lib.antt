@@ -1,5 +1,3 @@
-pub mod Entry
-pub mod Spelling
 pub mod Editing
-pub mod Spot
+pub mod Writing
 pub mod Day

@@ -1,9 +1,6 @@
 // Editing an access list: one entry put or dropped, the whole new list written to a second buffer.
 mod editing;
-mod entry;
-mod judging;
 pub mod refusal;
-mod spot;
 mod writing;
 
 pub use editing::Edited;

@@ -1,11 +1,9 @@
 // Writing the new list to the second buffer.
 use crate::editing::Edited;
-use crate::entry::id_length;
-use crate::entry::realm_length;
 use crate::refusal::OUTPUT_TOO_SHORT;
-use crate::spot::Spot;
 use bytes::copy;
-use list::Record;
+use entry::Entry;
+use entry::Spot;
 use words::Realm;
 use writes::write_number32;
 use writes::write_realm;
@@ -13,13 +11,15 @@ ghost use mathlib.Core.Path.{_≡_};
 ghost use mathlib.Core.Bool.{true};
 ghost use mathlib.Core.List.{[]};
 ghost use Prim.Native.Nat.{_+_, _≤_};
+ghost use lib.Dec.{ltb};
 ghost use lib.ListN.{length};
+ghost use Rattle.words.specs.Test.{if_then_else_};
 ghost use Rattle.words.specs.Writing.{digits, over, written};
 ghost use Rattle.words.specs.Realm.{realmBytes};
-ghost use Rattle.records.specs.Kind.{size};
-ghost use Rattle.edit.specs.Entry.{isEntry};
-ghost use Rattle.edit.specs.Spelling.{partOf, spelled};
-ghost use Rattle.edit.specs.Spot.{splice, Writes};
+ghost use Rattle.records.specs.Kind.{size as sizeOf};
+ghost use Rattle.entry.specs.Entry.{isEntry, recordFor};
+ghost use Rattle.entry.specs.Spelling.{partOf, spelled};
+ghost use Rattle.edit.specs.Writing.{splice, Fits, Writes};
 
 // All of a piece, from a place on.
 fn copy_to(out: &mut [u8], at: usize, piece: &[u8])
@@ -27,6 +27,16 @@ fn copy_to(out: &mut [u8], at: usize, piece: &[u8])
     ensures { λ _. ⌜ now (out .exit) ≡ over at (now (piece .entry)) (now (out .entry)) ⌝ }
 {
     copy(piece, &mut out[at..]);
+}
+
+// How many bytes of an entry's record, so long, are its realm.
+fn realm_length(size: usize) -> usize
+    ensures { λ r. ⌜ r ≡ (if ltb size 18 then 0 else 16) ⌝ }
+{
+    if size < 18 {
+        return 0;
+    }
+    16
 }
 
 // The realm of a body that has one of n bytes.
@@ -47,24 +57,31 @@ fn write_id_in(out: &mut [u8], at: usize, n: usize, id: u32)
     }
 }
 
-fn write_record(out: &mut [u8], at: usize, r: Record)
-    requires { ⌜ (isEntry (r .kind) ≡ true) × (at + size (r .kind) ≤ length (now out)) ⌝ }
-    ensures { λ _. ⌜ now (out .exit) ≡ over at (spelled r) (now (out .entry)) ⌝ }
+// The record of an entry, so long.
+fn write_record(out: &mut [u8], at: usize, entry: Entry, size: usize)
+    requires { ⌜ (isEntry (entry .kind) ≡ true) × (size ≡ sizeOf (entry .kind)) × (at + size ≤ length (now out)) ⌝ }
+    ensures { λ _. ⌜ now (out .exit) ≡ over at (spelled (recordFor entry)) (now (out .entry)) ⌝ }
 {
-    let kind = r.kind;
-    let realm = realm_length(kind);
-    let id = id_length(kind);
+    let realm = realm_length(size);
+    let id = size - 2 - realm;
     let id_at = at + 1 + realm;
-    out[at] = kind;
-    write_realm_in(out, at + 1, realm, r.realm);
-    write_id_in(out, id_at, id, r.id);
-    out[id_at + id] = r.rights;
+    out[at] = entry.kind;
+    write_realm_in(out, at + 1, realm, entry.realm);
+    write_id_in(out, id_at, id, entry.id);
+    out[id_at + id] = entry.rights;
 }
 
-// The list with r in place of the record at a spot, n bytes long.
-pub(crate) fn write_put(list: &[u8], spot: Spot, r: Record, n: usize, out: &mut [u8]) -> Edited
-    requires { ⌜ (spot .at + spot .size ≤ length (now list)) × (isEntry (r .kind) ≡ true) × (r .size ≡ size (r .kind)) × (n + spot .size ≡ length (now list) + r .size) ⌝ }
-    ensures { λ e. ⌜ Writes (splice (now (list .entry)) spot (spelled r)) (now (out .entry)) e (now (out .exit)) ⌝ }
+// The list with the entry's record, so long, in place of what stands at a spot; n bytes.
+pub(crate) fn write_put(
+    list: &[u8],
+    spot: Spot,
+    entry: Entry,
+    size: usize,
+    n: usize,
+    out: &mut [u8],
+) -> Edited
+    requires { ⌜ Fits (now list) spot size n × (isEntry (entry .kind) ≡ true) × (size ≡ sizeOf (entry .kind)) ⌝ }
+    ensures { λ e. ⌜ Writes (splice (now (list .entry)) spot (spelled (recordFor entry))) (now (out .entry)) e (now (out .exit)) ⌝ }
 {
     if out.len() < n {
         return Edited::Refused {
@@ -74,14 +91,14 @@ pub(crate) fn write_put(list: &[u8], spot: Spot, r: Record, n: usize, out: &mut 
     let at = spot.at;
     let end = at + spot.size;
     copy_to(out, 0, &list[0..at]);
-    write_record(out, at, r);
-    copy_to(out, at + r.size, &list[end..]);
+    write_record(out, at, entry, size);
+    copy_to(out, at + size, &list[end..]);
     Edited::Length(n)
 }
 
-// The list without the record at a spot, n bytes long.
+// The list without what stands at a spot; n bytes.
 pub(crate) fn write_drop(list: &[u8], spot: Spot, n: usize, out: &mut [u8]) -> Edited
-    requires { ⌜ (spot .at + spot .size ≤ length (now list)) × (n + spot .size ≡ length (now list)) ⌝ }
+    requires { ⌜ Fits (now list) spot 0 n ⌝ }
     ensures { λ e. ⌜ Writes (splice (now (list .entry)) spot []) (now (out .entry)) e (now (out .exit)) ⌝ }
 {
     if out.len() < n {

@@ -8,7 +8,7 @@ use Rattle.evaluate.specs.declared.asking.Caller.{Caller as TheCaller}
 use Rattle.evaluate.specs.declared.asking.File.{File as TheFile}
 use Rattle.rights.specs.declared.guard.Guard.{Guard}
 use Rattle.rights.specs.declared.guard.Guard.the-variants.{List as ByList, Mode}
-use Rattle.edit.specs.declared.entry.Entry.{Entry as TheEntry}
+use Rattle.entry.specs.declared.entries.Entry.{Entry as TheEntry}
 use Rattle.claims.specs.declared.claim.Claim.{Claim as TheClaim}
 use Rattle.exchange.specs.declared.given.Caller.{Caller}
 use Rattle.exchange.specs.declared.given.Claim.{Claim}

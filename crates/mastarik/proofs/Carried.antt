@@ -11,9 +11,9 @@ use Rattle.evaluate.specs.declared.verdict.Verdict.{Verdict}
 use Rattle.rights.specs.Deciding.{decided, answerSays, Finds}
 use Rattle.rights.specs.declared.answer.Found.{Found}
 use Rattle.rights.specs.declared.guard.Guard.{Guard}
+use Rattle.entry.specs.declared.entries.Entry.{Entry as TheEntry}
 use Rattle.edit.specs.Editing.{editedSays, Puts as PutsEntry, Drops as DropsEntry}
 use Rattle.edit.specs.declared.editing.Edited.{Edited}
-use Rattle.edit.specs.declared.entry.Entry.{Entry as TheEntry}
 use Rattle.claims.specs.declared.claim.Claim.{Claim as TheClaim}
 use Rattle.table.specs.Fill.{Fills as FillsTable}
 use Rattle.table.specs.Reply.{replySays}

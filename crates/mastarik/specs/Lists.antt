@@ -6,7 +6,8 @@ use Rattle.words.specs.Said.{left}
 use Rattle.list.specs.Checking.{checkSays}
 use Rattle.evaluate.specs.Evaluation.{Decided}
 use Rattle.rights.specs.Deciding.{decided}
-use Rattle.edit.specs.Editing.{putting, dropping, putSays, dropSays}
+use Rattle.entry.specs.NewList.{putting, dropping}
+use Rattle.edit.specs.Editing.{putSays, dropSays}
 use Rattle.exchange.specs.Answer.{answerFor, answerOf}
 use Rattle.exchange.specs.Given.{callerOf, fileOf, guardOf, entryOf}
 use Rattle.exchange.specs.declared.answer.Answer.{Answer}

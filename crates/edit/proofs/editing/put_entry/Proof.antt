@@ -1,5 +1,5 @@
 use borrow.Author.Needs.{needs}
-use Rattle.edit.proofs.Outcomes.{checked, put-old}
+use Rattle.edit.proofs.Outcomes.{put-fits, put-written, put-refused, put-refused-at}
 use Rattle.edit.proofs.editing.put_entry.Statement.{statement}
 use Rattle.edit.proofs.editing.put_entry.Tie as tie
 
@@ -9,8 +9,10 @@ put-entry-spec =
     (tie.spec
     (λ c κs. search needs)
     (λ c. search needs)
+    (λ c κs. put-fits (λ i. c .before .before .before .before .before .before .shared-slice-known .given i .fits) (c .before .before .before .before .plan-put .ensures) (c .before .before .spot .given .1))
     (λ c. search needs)
-    (λ c κs. checked (c .before .before .before .check-list .ensures) (c .before .enum-told .given .1))
-    (λ c. put-old (c .before .before .before .check-list .ensures) (c .before .number .given .1))
     (λ c. search needs)
-    (λ c. search needs))
+    (λ c. search needs)
+    (λ c. put-written (λ i. c .before .before .before .before .before .before .before .before .before .shared-slice-known .given i .fits) (c .before .before .before .before .before .before .before .plan-put .ensures) (c .before .before .before .before .before .spot .given .1) (c .before .before .write-put .ensures))
+    (λ c. put-refused (c .before .before .before .plan-put .ensures) (c .before .number .given .1))
+    (λ c. put-refused-at (c .before .before .before .plan-put .ensures) (c .before .number2 .given .1)))

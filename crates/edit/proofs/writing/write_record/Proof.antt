@@ -1,9 +1,8 @@
-use Prim.Native.Nat.{_+_}
+use Prim.Native.Nat.{_+_, _-_}
 use native.Mathlib.Omega.{arith}
 use borrow.Author.Needs.{needs}
 use lib.ListN.{length-set}
-use Rattle.edit.proofs.Lengths.{size-is}
-use Rattle.edit.proofs.Pieces.{record-written}
+use Rattle.edit.proofs.Pieces.{has-realm, entry-written}
 use Rattle.edit.proofs.writing.write_record.Statement.{statement}
 use Rattle.edit.proofs.writing.write_record.Tie as tie
 
@@ -12,14 +11,15 @@ write-record-spec =
     tie.close
     (tie.spec
     (λ c κs. search needs)
+    (λ c. omega (arith, has-realm (c .before .before .args .entry) (c .before .before .pre .0) (c .before .before .pre .1) (c .realm-length .ensures)))
+    (λ c. omega (arith, has-realm (c .before .before .args .entry) (c .before .before .pre .0) (c .before .before .pre .1) (c .realm-length .ensures)))
+    (λ c. omega (arith, has-realm (c .before .before .args .entry) (c .before .before .pre .0) (c .before .before .pre .1) (c .realm-length .ensures), c .before .before .pre .2))
+    (λ c. omega (arith, has-realm (c .before .before .args .entry) (c .before .before .pre .0) (c .before .before .pre .1) (c .realm-length .ensures), c .before .before .pre .2))
+    (λ c. omega (arith, has-realm (c .before .before .args .entry) (c .before .before .pre .0) (c .before .before .pre .1) (c .realm-length .ensures), c .before .before .pre .2))
+    (λ c. search needs)
     (λ c κs. search needs)
-    (λ c. search needs)
-    (λ c. search needs)
-    (λ c. omega (arith, size-is (c .before .before .before .args .r .kind) (c .before .before .before .pre .0), c .before .before .before .pre .1))
-    (λ c. search needs)
     (λ c κs. search needs)
-    (λ c κs. search needs)
-    (λ c. search needs)
-    (λ c. let a = c .before .before .before .before .before .before .before .before .before .before .before .args in omega (arith, size-is (c .before .before .before .before .before .before .before .before .before .before .before .args .r .kind) (c .before .before .before .before .before .before .before .before .before .before .before .pre .0), c .before .before .before .before .before .before .before .before .before .before .before .pre .1, c .before .before .before .before .before .before .before .before .before .realm-length .ensures .0, c .before .before .before .before .before .before .before .before .id-length .ensures .0, length-set (a .out .now) (a .at) (a .r .kind)))
-    (λ c. let a = c .before .before .before .before .before .before .before .before .before .before .before .args in omega (arith, length-set (a .out .now) (a .at) (a .r .kind), length-set (c .before .before .write-id-in .last .0) (a .at + 1 + c .before .before .before .before .before .before .before .before .before .realm-length .result + c .before .before .before .before .before .before .before .before .id-length .result) (a .r .rights)))
-    (λ c. let a = c .before .before .before .before .before .before .before .before .before .before .before .args in rw (c .before .before .write-id-in .ensures, c .before .before .before .before .before .before .write-realm-in .ensures) (record-written (a .r) (a .at) (a .out .now) (c .before .before .before .before .before .before .before .before .before .before .before .pre .0) (c .before .before .before .before .before .before .before .before .before .before .before .pre .1) _ _ (c .before .before .before .before .before .before .before .before .before .realm-length .ensures .0) (c .before .before .before .before .before .before .before .before .id-length .ensures .0))))
+    (λ c. omega (arith, has-realm (c .before .before .before .before .before .before .before .before .before .before .args .entry) (c .before .before .before .before .before .before .before .before .before .before .pre .0) (c .before .before .before .before .before .before .before .before .before .before .pre .1) (c .before .before .before .before .before .before .before .before .realm-length .ensures), c .before .before .before .before .before .before .before .before .before .before .pre .2))
+    (λ c. let a = c .before .before .before .before .before .before .before .before .before .before .args in omega (arith, has-realm (c .before .before .before .before .before .before .before .before .before .before .args .entry) (c .before .before .before .before .before .before .before .before .before .before .pre .0) (c .before .before .before .before .before .before .before .before .before .before .pre .1) (c .before .before .before .before .before .before .before .before .realm-length .ensures), c .before .before .before .before .before .before .before .before .before .before .pre .2, length-set (a .out .now) (a .at) (a .entry .kind)))
+    (λ c. let a = c .before .before .before .before .before .before .before .before .before .before .args in let n = c .before .before .before .before .before .before .before .before .realm-length .result in omega (arith, length-set (a .out .now) (a .at) (a .entry .kind), length-set (c .before .before .write-id-in .last .0) (a .at + 1 + n + (a .size - 2 - n)) (a .entry .rights)))
+    (λ c. let a = c .before .before .before .before .before .before .before .before .before .before .args in rw (c .before .before .write-id-in .ensures, c .before .before .before .before .before .before .write-realm-in .ensures) (entry-written (a .entry) (c .before .before .before .before .before .before .before .before .before .before .pre .0) (c .before .before .before .before .before .before .before .before .before .before .pre .1) (c .before .before .before .before .before .before .before .before .realm-length .ensures) (a .at) (a .out .now) (c .before .before .before .before .before .before .before .before .before .before .pre .2))))

@@ -1,0 +1,70 @@
+-- Where a record stands by another: by what was tested, and what follows. Assumes nothing.
+use mathlib.Core.Path.{_≡_, refl, sym, _∙_}
+use mathlib.Core.Bool.{Bool, true, false}
+use Prim.Native.Nat.{ℕ, _<_}
+use native.Mathlib.Omega.{arith}
+use borrow.Author.Tests.{lt-ltb}
+use Rattle.words.specs.Test.{if_then_else_}
+use Rattle.records.specs.Standing.{rises}
+use Rattle.records.specs.declared.records.Record.{Record}
+use Rattle.records.proofs.Ordered.{rises-asym}
+use Rattle.entry.specs.Spot.{sideOf}
+use Rattle.entry.specs.declared.spot.Side.{Side}
+use Rattle.entry.specs.declared.spot.Side.the-variants.{Before, Same, After}
+
+-- a lower kind comes before
+kinds-tell : (a b : Record) → a .kind < b .kind → rises a b ≡ true
+unfolding rises
+kinds-tell a b h = rw (lt-ltb (a .kind) (b .kind) h) refl
+
+module _ (q r : Record) where
+  pub lower-kind : q .kind < r .kind → Before ≡ sideOf q r
+  unfolding sideOf
+  lower-kind h = rw (kinds-tell q r h) refl
+
+  pub higher-kind : r .kind < q .kind → After ≡ sideOf q r
+  unfolding sideOf
+  higher-kind h = let p = kinds-tell r q h in rw (p, rises-asym r q p) refl
+
+  module _ {b : Bool} (told : b ≡ rises q r) where
+    pub is-before : b ≡ true → Before ≡ sideOf q r
+    unfolding sideOf
+    is-before t = rw (sym told ∙ t) refl
+
+    module _ (stays : b ≡ false) {c : Bool} (back : c ≡ rises r q) where
+      pub is-after : c ≡ true → After ≡ sideOf q r
+      unfolding sideOf
+      is-after t = rw (sym told ∙ stays, sym back ∙ t) refl
+
+      pub is-same : c ≡ false → Same ≡ sideOf q r
+      unfolding sideOf
+      is-same t = rw (sym told ∙ stays, sym back ∙ t) refl
+
+  -- what a side says
+  module _ {side : Side} (told : side ≡ sideOf q r) where
+    pub was-before : side ≡ Before → rises q r ≡ true
+    unfolding sideOf
+    was-before s = go (rises q r) (rises r q) (sym told ∙ s)
+      where
+        go : (a b : Bool) → (if a then Before else if b then After else Same) ≡ Before → a ≡ true
+        go true b e = refl
+        go false true e = let z : _≡_ {A = ℕ} 0 1 = cc in absurd (omega arith)
+        go false false e = let z : _≡_ {A = ℕ} 0 1 = cc in absurd (omega arith)
+
+    pub was-after : side ≡ After → (rises q r ≡ false) × (rises r q ≡ true)
+    unfolding sideOf
+    was-after s = go (rises q r) (rises r q) (sym told ∙ s)
+      where
+        go : (a b : Bool) → (if a then Before else if b then After else Same) ≡ After → (a ≡ false) × (b ≡ true)
+        go true b e = let z : _≡_ {A = ℕ} 0 1 = cc in absurd (omega arith)
+        go false true e = (refl, refl)
+        go false false e = let z : _≡_ {A = ℕ} 0 1 = cc in absurd (omega arith)
+
+    pub was-same : side ≡ Same → (rises q r ≡ false) × (rises r q ≡ false)
+    unfolding sideOf
+    was-same s = go (rises q r) (rises r q) (sym told ∙ s)
+      where
+        go : (a b : Bool) → (if a then Before else if b then After else Same) ≡ Same → (a ≡ false) × (b ≡ false)
+        go true b e = let z : _≡_ {A = ℕ} 0 1 = cc in absurd (omega arith)
+        go false true e = let z : _≡_ {A = ℕ} 0 1 = cc in absurd (omega arith)
+        go false false e = (refl, refl)
