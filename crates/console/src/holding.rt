@@ -1,6 +1,4 @@
 // The tokens of a table in words.
-use crate::memory::Memory;
-use crate::memory::least;
 use crate::says::done_with;
 use crate::says::refused;
 use crate::texts::Line;
@@ -71,7 +69,7 @@ fn slot(slot: Slot) -> u64
     }
 }
 
-fn all(table: &[u8]) -> Line {
+pub(crate) fn held(table: &[u8]) -> Line {
     if !well_formed(table) {
         return refused(NOT_WELL_FORMED);
     }
@@ -85,9 +83,4 @@ fn all(table: &[u8]) -> Line {
         at += WIDTH;
     }
     done_with(n)
-}
-
-pub(crate) fn held(memory: Memory, table: &[u8]) -> Line {
-    let n = least(memory.table, table.len());
-    all(&table[0..n])
 }

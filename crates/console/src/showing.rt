@@ -1,24 +1,29 @@
 // The buffers in hex.
 use crate::amounts::amount;
-use crate::memory::Memory;
-use crate::memory::Shown;
+use crate::kind;
 use crate::says::error;
 use crate::spaced::count;
 use crate::spaced::word;
+use crate::texts::Line;
+use crate::texts::answer;
 use check::same;
 
-pub(crate) fn show(line: &[u8], memory: Memory) -> Memory {
+fn shown(kind: u8, size: usize) -> Line {
+    answer(kind, size, b"")
+}
+
+pub(crate) fn show(line: &[u8], table: usize, list: usize) -> Line {
     let what = word(line, 1);
     let alone = count(line) == 2;
     if alone & same(what, b"table") {
-        return memory.showing(Shown::Table, memory.table);
+        return shown(kind::TABLE, table);
     }
     if alone & same(what, b"list") {
-        return memory.showing(Shown::List, memory.list);
+        return shown(kind::LIST, list);
     }
     let length = amount(word(line, 2), 16384);
     if length.fits & same(what, b"out") {
-        return memory.showing(Shown::Out, length.value as usize);
+        return shown(kind::OUT, length.value as usize);
     }
-    memory.saying(error(b"show table, show list, or show out LENGTH, up to 16384"))
+    error(b"show table, show list, or show out LENGTH, up to 16384")
 }
