@@ -21,8 +21,8 @@ use crate::showing::show;
 use crate::texts::Line;
 use crate::texts::first;
 
-// The commands on the table.
-fn on_table(command: usize, line: &[u8], n: usize, table: &mut [u8]) -> Line {
+// The commands that go by the table.
+fn by_table(command: usize, line: &[u8], n: usize, table: &mut [u8]) -> Line {
     let n = least(n, table.len());
     let table = &mut table[0..n];
     match command {
@@ -35,8 +35,17 @@ fn on_table(command: usize, line: &[u8], n: usize, table: &mut [u8]) -> Line {
     }
 }
 
-// The commands on the list.
-fn on_list(
+// Those, and the commands that set it.
+fn on_table(command: usize, line: &[u8], n: usize, table: &mut [u8]) -> Line {
+    match command {
+        command::TABLE => setting::table(line, table),
+        command::LOAD => files::load(line, table),
+        _ => by_table(command, line, n, table),
+    }
+}
+
+// The commands that go by the list.
+fn by_list(
     command: usize,
     line: &[u8],
     n: usize,
@@ -53,6 +62,22 @@ fn on_list(
         command::RECORDS => records(list),
         command::PUT => calls::put(line, list, out),
         _ => calls::unput(line, list, out),
+    }
+}
+
+// Those, and the commands that set it.
+fn on_list(
+    command: usize,
+    line: &[u8],
+    n: usize,
+    list: &mut [u8],
+    room: usize,
+    out: &mut [u8],
+) -> Line {
+    match command {
+        command::LIST => setting::list(line, list),
+        command::KEEP => setting::keep(line, list, out),
+        _ => by_list(command, line, n, list, room, out),
     }
 }
 
@@ -80,7 +105,17 @@ fn by_rights(
     }
 }
 
-// The commands whose answer is in the line alone.
+// The commands that need no buffer.
+fn alone(command: usize, line: &[u8], memory: Memory) -> Line {
+    let file = memory.file;
+    match command {
+        command::SHOW => show(line, memory.table, memory.list),
+        command::NEEDS => calls::needs(line, file),
+        command::TOTAL => total(memory.met, memory.missed),
+        _ => by_line(command, line),
+    }
+}
+
 fn by_line(command: usize, line: &[u8]) -> Line {
     match command {
         command::ROOM => setting::room(line),
@@ -101,32 +136,40 @@ fn answer(
     list: &mut [u8],
     out: &mut [u8],
 ) -> Line {
-    let file = memory.file;
     match command {
-        command::TABLE => setting::table(line, table),
-        command::LOAD => files::load(line, table),
-        command::LIST => setting::list(line, list),
-        command::KEEP => setting::keep(line, list, out),
-        command::SHOW => show(line, memory.table, memory.list),
-        command::NEEDS => calls::needs(line, file),
-        command::TOTAL => total(memory.met, memory.missed),
-        command::CHECK | command::RECORDS | command::PUT | command::UNPUT => {
-            on_list(command, line, memory.list, list, memory.room, out)
-        }
         command::RIGHTS | command::ASK | command::GRANT => {
             by_rights(command, line, memory, table, list, out)
         }
-        command::FILL
-        | command::DROP
-        | command::AUDIT
-        | command::RETURN
-        | command::HELD
-        | command::SAVE => { on_table(command, line, memory.table, table) }
-        _ => by_line(command, line),
+        command::LIST
+        | command::KEEP
+        | command::CHECK
+        | command::RECORDS
+        | command::PUT
+        | command::UNPUT => { on_list(command, line, memory.list, list, memory.room, out) }
+        command::TABLE | command::LOAD | command::SAVE | command::HELD => {
+            on_table(command, line, memory.table, table)
+        }
+        command::FILL | command::DROP | command::AUDIT | command::RETURN => {
+            on_table(command, line, memory.table, table)
+        }
+        _ => alone(command, line, memory),
     }
 }
 
-// What a line comes to: an answer that is held against the line, one that is told, or nothing.
+fn obey(
+    command: usize,
+    line: &[u8],
+    memory: Memory,
+    table: &mut [u8],
+    list: &mut [u8],
+    out: &mut [u8],
+) -> Memory {
+    let said = answer(command, line, memory, table, list, out);
+    tell(said, table, list, out);
+    remember(command, line, said, memory)
+}
+
+// What a line comes to: nothing, an answer that is held against the line, or one that is told.
 fn turn(
     typed: Typed,
     line: &[u8],
@@ -138,15 +181,13 @@ fn turn(
 ) -> Memory {
     let line = first(line, typed.length);
     let command = command_in(line, typed.long);
-    match command {
-        command::PASSED_OVER => memory,
-        command::EXPECT => expect(line, number, memory, table, list, out),
-        _ => {
-            let said = answer(command, line, memory, table, list, out);
-            tell(said, table, list, out);
-            remember(command, line, said, memory)
-        }
+    if command == command::PASSED_OVER {
+        return memory;
     }
+    if command == command::EXPECT {
+        return expect(line, number, memory, table, list, out);
+    }
+    obey(command, line, memory, table, list, out)
 }
 
 // To the end of the input; no input has so many lines.

@@ -53,21 +53,11 @@ pub(crate) fn start() -> Memory {
 }
 
 impl Memory {
-    pub(crate) fn with_table(self, n: usize) -> Memory {
+    pub(crate) fn with_lengths(self, table: usize, list: usize, room: usize) -> Memory {
         let mut next = self;
-        next.table = n;
-        next
-    }
-
-    pub(crate) fn with_list(self, n: usize) -> Memory {
-        let mut next = self;
-        next.list = n;
-        next
-    }
-
-    pub(crate) fn with_room(self, n: usize) -> Memory {
-        let mut next = self;
-        next.room = n;
+        next.table = table;
+        next.list = list;
+        next.room = room;
         next
     }
 

@@ -72,9 +72,9 @@ fn guard_in(line: &[u8]) -> Guard {
 // What a command sets, if it was understood.
 fn learn(command: usize, line: &[u8], n: usize, memory: Memory) -> Memory {
     match command {
-        command::TABLE | command::LOAD => memory.with_table(n),
-        command::LIST | command::KEEP => memory.with_list(n),
-        command::ROOM => memory.with_room(n),
+        command::TABLE | command::LOAD => memory.with_lengths(n, memory.list, memory.room),
+        command::LIST | command::KEEP => memory.with_lengths(memory.table, n, memory.room),
+        command::ROOM => memory.with_lengths(memory.table, memory.list, n),
         command::CALLER => with_caller(line, memory),
         command::FILE => memory.with_file(file_in(line)),
         command::GUARD => memory.with_guard(guard_in(line)),
