@@ -9,6 +9,7 @@ use crate::hexes::file_id;
 use crate::hexes::is_dash;
 use crate::hexes::realm;
 use crate::memory::Memory;
+use crate::memory::least;
 use crate::says::done_with;
 use crate::says::edited;
 use crate::says::error;
@@ -102,7 +103,18 @@ pub(crate) fn ask(
     let caller = memory.caller;
     let file = memory.file;
     let guard = memory.guard;
-    reply(desk::ask(table, claim, list, groups, caller, file, guard, out))
+    let t = least(memory.table, table.len());
+    let o = least(memory.room, out.len());
+    reply(desk::ask(
+        &table[0..t],
+        claim,
+        list,
+        groups,
+        caller,
+        file,
+        guard,
+        &mut out[0..o],
+    ))
 }
 
 pub(crate) fn grant(
@@ -120,7 +132,8 @@ pub(crate) fn grant(
     let caller = memory.caller;
     let file = memory.file;
     let guard = memory.guard;
-    reply(desk::grant(table, claim, list, groups, caller, file, guard))
+    let t = least(memory.table, table.len());
+    reply(desk::grant(&mut table[0..t], claim, list, groups, caller, file, guard))
 }
 
 pub(crate) fn give_back(line: &[u8], table: &mut [u8]) -> Line {

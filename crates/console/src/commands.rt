@@ -7,7 +7,7 @@ use check::same;
 const HASH: u8 = 35;
 
 // Which of some words this one is; past the last where it is none of them.
-fn place_among(name: &[u8], names: &[u8]) -> usize {
+pub(crate) fn place_among(name: &[u8], names: &[u8]) -> usize {
     let n = count(names);
     let mut k = 0;
     while k < n {

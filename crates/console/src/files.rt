@@ -5,6 +5,12 @@ use crate::says::error;
 use crate::spaced::word;
 use crate::texts::Line;
 
+// No byte is left, and that could be seen.
+fn is_ended(fd: i32) -> bool {
+    let mut next = [0u8; 1];
+    libc::read(fd, &mut next) == 0
+}
+
 pub(crate) fn load(line: &[u8], table: &mut [u8]) -> Line {
     let fd = os::open_read(word(line, 1));
     if fd < 0 {
@@ -12,10 +18,9 @@ pub(crate) fn load(line: &[u8], table: &mut [u8]) -> Line {
     }
     let mut bytes = io::large_buffer();
     let n = io::read_full(fd, &mut bytes);
-    let mut next = [0u8; 1];
-    let more = libc::read(fd, &mut next);
+    let ended = is_ended(fd);
     libc::close(fd);
-    if more != 0 {
+    if !ended {
         return error(b"FILE cannot be read, or has more than 65536 bytes");
     }
     copy(&bytes[..n], table);

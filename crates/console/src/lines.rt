@@ -90,12 +90,8 @@ fn by_rights(
     list: &[u8],
     out: &mut [u8],
 ) -> Line {
-    let t = least(memory.table, table.len());
-    let table = &mut table[0..t];
-    let l = least(memory.list, list.len());
-    let list = &list[0..l];
-    let o = least(memory.room, out.len());
-    let out = &mut out[0..o];
+    let n = least(memory.list, list.len());
+    let list = &list[0..n];
     let all = memory.groups;
     let groups = first_ids(&all, memory.further);
     match command {
@@ -145,13 +141,15 @@ fn answer(
         | command::CHECK
         | command::RECORDS
         | command::PUT
-        | command::UNPUT => { on_list(command, line, memory.list, list, memory.room, out) }
-        command::TABLE | command::LOAD | command::SAVE | command::HELD => {
-            on_table(command, line, memory.table, table)
-        }
-        command::FILL | command::DROP | command::AUDIT | command::RETURN => {
-            on_table(command, line, memory.table, table)
-        }
+        | command::UNPUT => on_list(command, line, memory.list, list, memory.room, out),
+        command::TABLE
+        | command::LOAD
+        | command::SAVE
+        | command::HELD
+        | command::FILL
+        | command::DROP
+        | command::AUDIT
+        | command::RETURN => on_table(command, line, memory.table, table),
         _ => alone(command, line, memory),
     }
 }
