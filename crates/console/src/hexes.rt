@@ -4,7 +4,7 @@ use crate::texts::text;
 use crate::texts::write;
 use claims::FileId;
 use words::Realm;
-ghost use Prim.Native.Nat.{_+_, _/_, _≤_, _<_};
+ghost use Prim.Native.Nat.{_/_, _≤_, _<_};
 ghost use lib.ListN.{length};
 
 // A hex digit's number; 16 for what is none.

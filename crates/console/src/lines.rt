@@ -112,6 +112,7 @@ fn alone(command: usize, line: &[u8], memory: Memory) -> Line {
     }
 }
 
+// Those whose answer is in the line alone, and lines that are no command.
 fn by_line(command: usize, line: &[u8]) -> Line {
     match command {
         command::ROOM => setting::room(line),

@@ -5,9 +5,7 @@ use evaluate::Caller;
 use evaluate::File;
 use rights::Guard;
 use words::Realm;
-ghost use mathlib.Core.Path.{_≡_};
 ghost use Prim.Native.Nat.{_≤_};
-ghost use lib.ListN.{length};
 
 pub struct Memory {
     // How many bytes of its buffer the table has, and the list.

@@ -1,4 +1,4 @@
-// What the calls go by: the table's bytes, the list, the caller, the file, its guard, the room for output.
+// The commands that set what the calls go by: the table's bytes, the list, the room for output, the caller, the file, its guard.
 use crate::amounts::MOST_32;
 use crate::amounts::amount;
 use crate::hexes::are_bytes;
@@ -90,7 +90,7 @@ pub(crate) fn room(line: &[u8]) -> Line {
     answer(kind::WORDS, room.value as usize, b"done")
 }
 
-// Every word from a place on is an id.
+// Every word from a place to another is an id.
 fn are_ids(line: &[u8], from: usize, to: usize) -> bool {
     let mut k = from;
     while k < to {
