@@ -24,39 +24,36 @@ use claims::Claim;
 use edit::Entry;
 use edit::drop_entry;
 use edit::put_entry;
+use evaluate::File;
 use evaluate::check_list;
 use rights::decide;
 ghost use Prim.Native.Nat.{_≤_};
 
-pub(crate) fn fill(memory: Memory, table: &mut [u8]) -> Line {
-    let n = least(memory.table, table.len());
-    reply(desk::fill(&mut table[0..n]))
+pub(crate) fn fill(table: &mut [u8]) -> Line {
+    reply(desk::fill(table))
 }
 
-pub(crate) fn drop_host(line: &[u8], memory: Memory, table: &mut [u8]) -> Line {
+pub(crate) fn drop_host(line: &[u8], table: &mut [u8]) -> Line {
     let host = amount(word(line, 1), MOST_16);
     if !host.fits {
         return error(b"HOST is a number up to 65535");
     }
-    let n = least(memory.table, table.len());
-    reply(desk::drop_host(&mut table[0..n], host.value as u16))
+    reply(desk::drop_host(table, host.value as u16))
 }
 
-pub(crate) fn audit(memory: Memory, table: &[u8]) -> Line {
-    let n = least(memory.table, table.len());
-    if desk::audit(&table[0..n]) {
+pub(crate) fn audit(table: &[u8]) -> Line {
+    if desk::audit(table) {
         return text(b"yes");
     }
     text(b"no")
 }
 
 // The rights that types need on the file.
-pub(crate) fn needs(line: &[u8], memory: Memory) -> Line {
+pub(crate) fn needs(line: &[u8], file: File) -> Line {
     let types = amount(word(line, 1), MOST_16);
     if !types.fits {
         return error(b"TYPES is a number up to 65535");
     }
-    let file = memory.file;
     done_with(needed_rights(types.value as u16, file.dir) as u64)
 }
 
@@ -102,19 +99,17 @@ pub(crate) fn ask(
     if !request.fits {
         return misspelled_request();
     }
-    let t = least(memory.table, table.len());
-    let l = least(memory.list, list.len());
-    let g = least(memory.further, groups.len());
-    let o = least(memory.room, out.len());
     let claim = request.claim;
     let caller = memory.caller;
     let file = memory.file;
     let guard = memory.guard;
+    let t = least(memory.table, table.len());
+    let o = least(memory.room, out.len());
     reply(desk::ask(
         &table[0..t],
         claim,
-        &list[0..l],
-        &groups[0..g],
+        list,
+        groups,
         caller,
         file,
         guard,
@@ -133,52 +128,33 @@ pub(crate) fn grant(
     if !request.fits {
         return misspelled_request();
     }
-    let t = least(memory.table, table.len());
-    let l = least(memory.list, list.len());
-    let g = least(memory.further, groups.len());
     let claim = request.claim;
     let caller = memory.caller;
     let file = memory.file;
     let guard = memory.guard;
-    reply(desk::grant(
-        &mut table[0..t],
-        claim,
-        &list[0..l],
-        &groups[0..g],
-        caller,
-        file,
-        guard,
-    ))
+    let t = least(memory.table, table.len());
+    reply(desk::grant(&mut table[0..t], claim, list, groups, caller, file, guard))
 }
 
-pub(crate) fn give_back(line: &[u8], memory: Memory, table: &mut [u8]) -> Line {
+pub(crate) fn give_back(line: &[u8], table: &mut [u8]) -> Line {
     let host = amount(word(line, 1), MOST_16);
     let number = amount(word(line, 2), MOST_64);
     let types = amount(word(line, 3), MOST_16);
     if !(host.fits & number.fits & types.fits) {
         return error(b"HOST and TYPES are numbers up to 65535, NUMBER is one of 64 bits");
     }
-    let n = least(memory.table, table.len());
-    reply(desk::give_back(
-        &mut table[0..n],
-        host.value as u16,
-        number.value,
-        types.value as u16,
-    ))
+    reply(desk::give_back(table, host.value as u16, number.value, types.value as u16))
 }
 
-pub(crate) fn check(memory: Memory, list: &[u8]) -> Line {
-    let n = least(memory.list, list.len());
-    verdict(check_list(&list[0..n]))
+pub(crate) fn check(list: &[u8]) -> Line {
+    verdict(check_list(list))
 }
 
 pub(crate) fn rights(memory: Memory, list: &[u8], groups: &[u32]) -> Line {
-    let l = least(memory.list, list.len());
-    let g = least(memory.further, groups.len());
     let caller = memory.caller;
     let file = memory.file;
     let guard = memory.guard;
-    found(decide(&list[0..l], &groups[0..g], caller, file, guard))
+    found(decide(list, groups, caller, file, guard))
 }
 
 // An entry, if the words say one.
@@ -218,28 +194,24 @@ fn misspelled_entry() -> Line {
     )
 }
 
-pub(crate) fn put(line: &[u8], memory: Memory, list: &[u8], out: &mut [u8]) -> Line {
+pub(crate) fn put(line: &[u8], list: &[u8], out: &mut [u8]) -> Line {
     let rights = amount(word(line, 4), MOST_8);
     let item = item_in(line, rights.value);
     if !(item.fits & rights.fits) {
         return misspelled_entry();
     }
-    let l = least(memory.list, list.len());
-    let o = least(memory.room, out.len());
     let entry = item.entry;
-    edited(put_entry(&list[0..l], entry, &mut out[0..o]))
+    edited(put_entry(list, entry, out))
 }
 
 // The rights byte of a drop may be given, and is ignored.
-pub(crate) fn unput(line: &[u8], memory: Memory, list: &[u8], out: &mut [u8]) -> Line {
+pub(crate) fn unput(line: &[u8], list: &[u8], out: &mut [u8]) -> Line {
     let given = word(line, 4);
     let rights = amount(given, MOST_8);
     let item = item_in(line, rights.value);
     if !(item.fits & (rights.fits | (given.len() == 0))) {
         return misspelled_entry();
     }
-    let l = least(memory.list, list.len());
-    let o = least(memory.room, out.len());
     let entry = item.entry;
-    edited(drop_entry(&list[0..l], entry, &mut out[0..o]))
+    edited(drop_entry(list, entry, out))
 }

@@ -1,39 +1,41 @@
 // The table's bytes from a file and to one.
-use crate::memory::Memory;
 use crate::memory::copy;
-use crate::memory::least;
 use crate::says::done_with;
 use crate::says::error;
 use crate::spaced::word;
 use crate::texts::Line;
 
-pub(crate) fn load(line: &[u8], memory: Memory, table: &mut [u8]) -> Memory {
+// No byte is left, and that could be seen.
+fn is_ended(fd: i32) -> bool {
+    let mut next = [0u8; 1];
+    libc::read(fd, &mut next) == 0
+}
+
+pub(crate) fn load(line: &[u8], table: &mut [u8]) -> Line {
     let fd = os::open_read(word(line, 1));
     if fd < 0 {
-        return memory.saying(error(b"FILE cannot be opened"));
+        return error(b"FILE cannot be opened");
     }
     let mut bytes = io::large_buffer();
     let n = io::read_full(fd, &mut bytes);
-    let mut next = [0u8; 1];
-    let more = libc::read(fd, &mut next);
+    let ended = is_ended(fd);
     libc::close(fd);
-    if more != 0 {
-        return memory.saying(error(b"FILE cannot be read, or has more than 65536 bytes"));
+    if !ended {
+        return error(b"FILE cannot be read, or has more than 65536 bytes");
     }
     copy(&bytes[..n], table);
-    memory.with_table(n).saying(done_with(n as u64))
+    done_with(n as u64)
 }
 
-pub(crate) fn save(line: &[u8], memory: Memory, table: &[u8]) -> Line {
+pub(crate) fn save(line: &[u8], table: &[u8]) -> Line {
     let fd = os::open_overwrite(word(line, 1));
     if fd < 0 {
         return error(b"FILE cannot be opened");
     }
-    let n = least(memory.table, table.len());
-    let written = io::write_all(fd, &table[0..n]);
+    let written = io::write_all(fd, table);
     libc::close(fd);
     if !written {
         return error(b"FILE cannot be written");
     }
-    done_with(n as u64)
+    done_with(table.len() as u64)
 }

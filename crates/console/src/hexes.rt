@@ -1,9 +1,10 @@
 // Bytes as hex digits, read and written.
-use crate::memory::least;
+use crate::texts::Line;
+use crate::texts::text;
 use crate::texts::write;
 use claims::FileId;
 use words::Realm;
-ghost use Prim.Native.Nat.{_+_, _/_, _≤_, _<_};
+ghost use Prim.Native.Nat.{_/_, _≤_, _<_};
 ghost use lib.ListN.{length};
 
 // A hex digit's number; 16 for what is none.
@@ -104,39 +105,13 @@ pub(crate) fn file_id(word: &[u8]) -> FileId {
     }
 }
 
-// The letter of the lower digit.
-fn letter(byte: u8) -> u8 {
-    let n = byte % 16;
-    if n < 10 {
-        return n + 48;
+// With a byte's digits; a line that is full is printed first, and another begun.
+fn with_byte(line: Line, byte: u8) -> Line {
+    if line.length < 256 {
+        return line.hex(byte as u64, 2);
     }
-    n + 87
-}
-
-// As many bytes as a piece has room for, from a place on, and answers how many.
-fn spell(bytes: &[u8], from: usize, piece: &mut [u8]) -> usize
-    requires { ⌜ from ≤ length (now bytes) ⌝ }
-    ensures { λ r. ⌜ (r ≤ 2048) × (from + r ≤ length (now (bytes .entry))) ⌝ }
-{
-    let mut n = 0;
-    while n < 2048 {
-        if bytes.len() - from <= n {
-            return n;
-        }
-        if piece.len() <= n * 2 + 1 {
-            return n;
-        }
-        piece[n * 2] = letter(bytes[from + n] / 16);
-        piece[n * 2 + 1] = letter(bytes[from + n]);
-        n += 1;
-    }
-    n
-}
-
-// The first letters of a piece.
-fn first(piece: &[u8], n: usize) {
-    let n = least(n, piece.len());
-    write(&piece[0..n]);
+    line.print();
+    text(b"").hex(byte as u64, 2)
 }
 
 // The bytes in hex, and '-' where there are none.
@@ -145,16 +120,13 @@ pub(crate) fn print(bytes: &[u8]) {
         write(b"-");
         return;
     }
-    let mut piece = io::buffer();
-    let mut at = 0;
-    while at < bytes.len() {
-        let n = spell(bytes, at, &mut piece);
-        if n == 0 {
-            break;
-        }
-        first(&piece, n * 2);
-        at += n;
+    let mut piece = text(b"");
+    let mut i = 0;
+    while i < bytes.len() {
+        piece = with_byte(piece, bytes[i]);
+        i += 1;
     }
+    piece.print();
 }
 
 // These letters are the bytes in hex, or '-' where there are none.

@@ -1,8 +1,7 @@
 // The tokens of a table in words.
-use crate::memory::Memory;
-use crate::memory::least;
 use crate::says::done_with;
 use crate::says::refused;
+use crate::spaced::word;
 use crate::texts::Line;
 use crate::texts::text;
 use claims::Claim;
@@ -13,49 +12,46 @@ use table::refusal::NOT_WELL_FORMED;
 use table::well_formed;
 ghost use Prim.Native.Nat.{_≤_};
 
-// With a type's name, if it is among the types.
-fn named(line: Line, types: u16, bit: u16, name: &[u8]) -> Line
-    requires { ⌜ 1 ≤ bit ⌝ }
+// With the name of a type, after those of k others.
+fn with_type(line: Line, k: usize) -> Line
+    requires { ⌜ k ≤ 7 ⌝ }
 {
-    if types / bit % 2 == 0 {
-        return line;
-    }
-    line.with(b", ").with(name)
+    let names =
+        b"data read data write status read status write lock read lock write open shared open exclusive";
+    line.with(b", ")
+        .with(word(names, k * 2))
+        .with(b" ")
+        .with(word(names, k * 2 + 1))
 }
 
+// With the names of the types, the lowest bit's first.
 fn with_types(line: Line, types: u16) -> Line {
-    let data = named(named(line, types, 1, b"data read"), types, 2, b"data write");
-    let status = named(
-        named(data, types, 4, b"status read"),
-        types,
-        8,
-        b"status write",
-    );
-    let lock = named(
-        named(status, types, 16, b"lock read"),
-        types,
-        32,
-        b"lock write",
-    );
-    named(
-        named(lock, types, 64, b"open shared"),
-        types,
-        128,
-        b"open exclusive",
-    )
+    let mut all = line;
+    let mut left = types;
+    let mut k = 0;
+    while k < 8 {
+        if left % 2 == 1 {
+            all = with_type(all, k);
+        }
+        left /= 2;
+        k += 1;
+    }
+    all
+}
+
+fn with_range(line: Line, claim: Claim) -> Line {
+    let file = claim.file;
+    line.with(b", file ")
+        .hex(file.hi, 16)
+        .hex(file.lo as u64, 8)
+        .counted(b", bytes ", claim.first)
+        .counted(b" to ", claim.last)
 }
 
 fn token(number: u64, claim: Claim) {
     let head = text(b"number ").counted(b"", number)
         .counted(b", host ", claim.host as u64);
-    let file = claim.file;
-    with_types(head, claim.types)
-        .with(b", file ")
-        .hex(file.hi, 16)
-        .hex(file.lo as u64, 8)
-        .counted(b", bytes ", claim.first)
-        .counted(b" to ", claim.last)
-        .print_line();
+    with_range(with_types(head, claim.types), claim).print_line();
 }
 
 // Answers how many tokens a slot holds.
@@ -71,7 +67,7 @@ fn slot(slot: Slot) -> u64
     }
 }
 
-fn all(table: &[u8]) -> Line {
+pub(crate) fn held(table: &[u8]) -> Line {
     if !well_formed(table) {
         return refused(NOT_WELL_FORMED);
     }
@@ -85,9 +81,4 @@ fn all(table: &[u8]) -> Line {
         at += WIDTH;
     }
     done_with(n)
-}
-
-pub(crate) fn held(memory: Memory, table: &[u8]) -> Line {
-    let n = least(memory.table, table.len());
-    all(&table[0..n])
 }

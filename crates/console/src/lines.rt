@@ -1,8 +1,7 @@
 // The lines of standard input, and the answer to each.
 use crate::calls;
-use crate::commands::Command;
-use crate::commands::command_of;
-use crate::commands::takes;
+use crate::command;
+use crate::commands::command_in;
 use crate::expecting::expect;
 use crate::expecting::tell;
 use crate::expecting::total;
@@ -10,153 +9,194 @@ use crate::files;
 use crate::holding::held;
 use crate::listing::records;
 use crate::memory::Memory;
+use crate::memory::first_ids;
 use crate::memory::least;
 use crate::memory::start;
 use crate::reading::Typed;
 use crate::reading::next_line;
+use crate::remembering::remember;
 use crate::says::error;
 use crate::setting;
 use crate::showing::show;
-use crate::spaced::count;
-use crate::spaced::word;
 use crate::texts::Line;
-use check::same;
+use crate::texts::first;
 
-const HASH: u8 = 35;
-
-// A line whose first word is this is passed over: there is none, or it begins with '#'.
-fn is_passed_over(word: &[u8]) -> bool {
-    if word.len() == 0 {
-        return true;
+// The commands that go by the table.
+fn by_table(command: usize, line: &[u8], n: usize, table: &mut [u8]) -> Line {
+    let n = least(n, table.len());
+    let table = &mut table[0..n];
+    match command {
+        command::FILL => calls::fill(table),
+        command::DROP => calls::drop_host(line, table),
+        command::AUDIT => calls::audit(table),
+        command::RETURN => calls::give_back(line, table),
+        command::HELD => held(table),
+        _ => files::save(line, table),
     }
-    word[0] == HASH
 }
 
-// The commands that leave what the others go by as it is.
-fn call(
-    command: Command,
+// Those, and the commands that set it.
+fn on_table(command: usize, line: &[u8], n: usize, table: &mut [u8]) -> Line {
+    match command {
+        command::TABLE => setting::table(line, table),
+        command::LOAD => files::load(line, table),
+        _ => by_table(command, line, n, table),
+    }
+}
+
+// The commands that go by the list.
+fn by_list(
+    command: usize,
+    line: &[u8],
+    n: usize,
+    list: &[u8],
+    room: usize,
+    out: &mut [u8],
+) -> Line {
+    let n = least(n, list.len());
+    let list = &list[0..n];
+    let room = least(room, out.len());
+    let out = &mut out[0..room];
+    match command {
+        command::CHECK => calls::check(list),
+        command::RECORDS => records(list),
+        command::PUT => calls::put(line, list, out),
+        _ => calls::unput(line, list, out),
+    }
+}
+
+// Those, and the commands that set it.
+fn on_list(
+    command: usize,
+    line: &[u8],
+    n: usize,
+    list: &mut [u8],
+    room: usize,
+    out: &mut [u8],
+) -> Line {
+    match command {
+        command::LIST => setting::list(line, list),
+        command::KEEP => setting::keep(line, list, out),
+        _ => by_list(command, line, n, list, room, out),
+    }
+}
+
+// The commands that go by the caller's rights.
+fn by_rights(
+    command: usize,
     line: &[u8],
     memory: Memory,
     table: &mut [u8],
     list: &[u8],
     out: &mut [u8],
-    groups: &[u32],
 ) -> Line {
+    let n = least(memory.list, list.len());
+    let list = &list[0..n];
+    let all = memory.groups;
+    let groups = first_ids(&all, memory.further);
     match command {
-        Command::Fill => calls::fill(memory, table),
-        Command::Drop => calls::drop_host(line, memory, table),
-        Command::Audit => calls::audit(memory, table),
-        Command::Ask => calls::ask(line, memory, table, list, groups, out),
-        Command::Grant => calls::grant(line, memory, table, list, groups),
-        Command::Return => calls::give_back(line, memory, table),
-        Command::Check => calls::check(memory, list),
-        Command::Rights => calls::rights(memory, list, groups),
-        Command::Needs => calls::needs(line, memory),
-        Command::Put => calls::put(line, memory, list, out),
-        Command::Unput => calls::unput(line, memory, list, out),
-        Command::Held => held(memory, table),
-        Command::Records => records(memory, list),
-        Command::Save => files::save(line, memory, table),
-        Command::Total => total(memory),
+        command::RIGHTS => calls::rights(memory, list, groups),
+        command::GRANT => calls::grant(line, memory, table, list, groups),
+        _ => calls::ask(line, memory, table, list, groups, out),
+    }
+}
+
+// The commands that need no buffer.
+fn alone(command: usize, line: &[u8], memory: Memory) -> Line {
+    let file = memory.file;
+    match command {
+        command::SHOW => show(line, memory.table, memory.list),
+        command::NEEDS => calls::needs(line, file),
+        command::TOTAL => total(memory.met, memory.missed),
+        _ => by_line(command, line),
+    }
+}
+
+// Those whose answer is in the line alone, and lines that are no command.
+fn by_line(command: usize, line: &[u8]) -> Line {
+    match command {
+        command::ROOM => setting::room(line),
+        command::CALLER => setting::caller(line),
+        command::FILE => setting::file(line),
+        command::GUARD => setting::guard(line),
+        command::MISCOUNTED => error(b"wrong number of words"),
+        command::LONG => error(b"a line has at most 16384 characters"),
         _ => error(b"unknown command"),
     }
 }
 
-// The commands that set what the others go by, or one of the others.
-fn set(
-    command: Command,
-    line: &[u8],
-    memory: Memory,
-    table: &mut [u8],
-    list: &mut [u8],
-    out: &mut [u8],
-    groups: &mut [u32],
-) -> Memory {
-    match command {
-        Command::Table => setting::table(line, memory, table),
-        Command::Load => files::load(line, memory, table),
-        Command::List => setting::list(line, memory, list),
-        Command::Keep => setting::keep(line, memory, list, out),
-        Command::Caller => setting::caller(line, memory, groups),
-        Command::File => setting::file(line, memory),
-        Command::Guard => setting::guard(line, memory),
-        Command::Room => setting::room(line, memory),
-        Command::Show => show(line, memory),
-        _ => memory.saying(call(command, line, memory, table, list, out, groups)),
-    }
-}
-
-// What a line comes to: an answer that is told, an answer that is held against the line, or nothing.
 fn answer(
+    command: usize,
     line: &[u8],
     memory: Memory,
     table: &mut [u8],
     list: &mut [u8],
     out: &mut [u8],
-    groups: &mut [u32],
-) -> Memory {
-    let name = word(line, 0);
-    if is_passed_over(name) {
-        return memory;
+) -> Line {
+    match command {
+        command::RIGHTS | command::ASK | command::GRANT => {
+            by_rights(command, line, memory, table, list, out)
+        }
+        command::LIST
+        | command::KEEP
+        | command::CHECK
+        | command::RECORDS
+        | command::PUT
+        | command::UNPUT => on_list(command, line, memory.list, list, memory.room, out),
+        command::TABLE
+        | command::LOAD
+        | command::SAVE
+        | command::HELD
+        | command::FILL
+        | command::DROP
+        | command::AUDIT
+        | command::RETURN => on_table(command, line, memory.table, table),
+        _ => alone(command, line, memory),
     }
-    if same(name, b"=") {
-        return expect(line, memory, table, list, out);
-    }
-    let next = obey(line, command_of(name), memory, table, list, out, groups);
-    let last = next.answer;
-    tell(last, table, list, out);
-    next
 }
 
 fn obey(
+    command: usize,
     line: &[u8],
-    command: Command,
     memory: Memory,
     table: &mut [u8],
     list: &mut [u8],
     out: &mut [u8],
-    groups: &mut [u32],
 ) -> Memory {
-    if !takes(command, count(line)) {
-        return memory.saying(error(b"wrong number of words"));
-    }
-    set(command, line, memory, table, list, out, groups)
+    let said = answer(command, line, memory, table, list, out);
+    tell(said, table, list, out);
+    remember(command, line, said, memory)
 }
 
-// The line that has ended.
-fn finish(
+// What a line comes to: nothing, an answer that is held against the line, or one that is told.
+fn turn(
     typed: Typed,
     line: &[u8],
+    number: u64,
     memory: Memory,
     table: &mut [u8],
     list: &mut [u8],
     out: &mut [u8],
-    groups: &mut [u32],
 ) -> Memory {
-    let next = memory.turned();
-    if typed.long {
-        let words = error(b"a line has at most 16384 characters");
-        words.print_line();
-        return next.saying(words);
+    let line = first(line, typed.length);
+    let command = command_in(line, typed.long);
+    if command == command::PASSED_OVER {
+        return memory;
     }
-    let n = least(typed.length, line.len());
-    answer(&line[0..n], next, table, list, out, groups)
+    if command == command::EXPECT {
+        return expect(line, number, memory, table, list, out);
+    }
+    obey(command, line, memory, table, list, out)
 }
 
 // To the end of the input; no input has so many lines.
-pub(crate) fn serve(
-    line: &mut [u8],
-    table: &mut [u8],
-    list: &mut [u8],
-    out: &mut [u8],
-    groups: &mut [u32],
-) {
+pub(crate) fn serve(line: &mut [u8], table: &mut [u8], list: &mut [u8], out: &mut [u8]) {
     let mut memory = start();
-    let mut turns = u64::MAX;
-    while turns > 0 {
-        turns -= 1;
+    let mut number = 0u64;
+    while number < u64::MAX {
+        number += 1;
         let typed = next_line(line);
-        memory = finish(typed, line, memory, table, list, out, groups);
+        memory = turn(typed, line, number, memory, table, list, out);
         if typed.last {
             return;
         }

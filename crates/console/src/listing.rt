@@ -1,6 +1,4 @@
 // The records of an access list in words.
-use crate::memory::Memory;
-use crate::memory::least;
 use crate::says::done_with;
 use crate::says::refused_with;
 use crate::spaced::word;
@@ -72,7 +70,7 @@ fn print_record(at: usize, r: Record) {
 }
 
 // Each record that the walk gives; a list has fewer records than bytes.
-fn all(list: &[u8]) -> Line {
+pub(crate) fn records(list: &[u8]) -> Line {
     let mut walk = Walk::start(list);
     let mut n = 0u64;
     while n < 4096 {
@@ -92,9 +90,4 @@ fn all(list: &[u8]) -> Line {
         n += 1;
     }
     done_with(n)
-}
-
-pub(crate) fn records(memory: Memory, list: &[u8]) -> Line {
-    let n = least(memory.list, list.len());
-    all(&list[0..n])
 }

@@ -1,15 +1,18 @@
 // The console: each line of standard input is a command, and each command is answered.
 mod amounts;
 mod calls;
+mod command;
 mod commands;
 mod expecting;
 mod files;
 mod hexes;
 mod holding;
+mod kind;
 mod lines;
 mod listing;
 mod memory;
 mod reading;
+mod remembering;
 mod says;
 mod setting;
 mod showing;
@@ -21,6 +24,5 @@ fn main() {
     let mut table = io::large_buffer();
     let mut list = [0u8; 16384];
     let mut out = [0u8; 16384];
-    let mut groups = [0u32; 40];
-    lines::serve(&mut line, &mut table, &mut list, &mut out, &mut groups);
+    lines::serve(&mut line, &mut table, &mut list, &mut out);
 }

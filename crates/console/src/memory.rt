@@ -5,30 +5,7 @@ use evaluate::Caller;
 use evaluate::File;
 use rights::Guard;
 use words::Realm;
-ghost use mathlib.Core.Path.{_≡_};
 ghost use Prim.Native.Nat.{_≤_};
-ghost use lib.ListN.{length};
-
-// What an answer is made of: words, or the first bytes of a buffer.
-pub enum Shown {
-    Words,
-    Table,
-    List,
-    Out,
-}
-
-pub struct Said {
-    pub shown: Shown,
-    pub words: Line,
-    // How many bytes of the buffer.
-    pub size: usize,
-}
-
-// Answers held against what was expected.
-pub struct Score {
-    pub met: u64,
-    pub missed: u64,
-}
 
 pub struct Memory {
     // How many bytes of its buffer the table has, and the list.
@@ -38,22 +15,15 @@ pub struct Memory {
     pub room: usize,
     pub caller: Caller,
     // The caller's further groups.
+    pub groups: [u32; 40],
     pub further: usize,
     pub file: File,
     pub guard: Guard,
     // The last answer.
-    pub answer: Said,
-    pub score: Score,
-    // The number of the line.
-    pub line: u64,
-}
-
-fn in_words(words: Line) -> Said {
-    Said {
-        shown: Shown::Words,
-        words: words,
-        size: 0,
-    }
+    pub last: Line,
+    // How many answers were as expected, and how many not.
+    pub met: u64,
+    pub missed: u64,
 }
 
 pub(crate) fn start() -> Memory {
@@ -66,6 +36,7 @@ pub(crate) fn start() -> Memory {
             user: 0,
             group: 0,
         },
+        groups: [0u32; 40],
         further: 0,
         file: File {
             owner: 0,
@@ -73,34 +44,25 @@ pub(crate) fn start() -> Memory {
             dir: false,
         },
         guard: Guard::List,
-        answer: in_words(text(b"")),
-        score: Score { met: 0, missed: 0 },
-        line: 0,
+        last: text(b""),
+        met: 0,
+        missed: 0,
     }
 }
 
 impl Memory {
-    pub(crate) fn with_table(self, n: usize) -> Memory {
+    pub(crate) fn with_lengths(self, table: usize, list: usize, room: usize) -> Memory {
         let mut next = self;
-        next.table = n;
+        next.table = table;
+        next.list = list;
+        next.room = room;
         next
     }
 
-    pub(crate) fn with_list(self, n: usize) -> Memory {
-        let mut next = self;
-        next.list = n;
-        next
-    }
-
-    pub(crate) fn with_room(self, n: usize) -> Memory {
-        let mut next = self;
-        next.room = n;
-        next
-    }
-
-    pub(crate) fn with_caller(self, caller: Caller, further: usize) -> Memory {
+    pub(crate) fn with_caller(self, caller: Caller, groups: [u32; 40], further: usize) -> Memory {
         let mut next = self;
         next.caller = caller;
+        next.groups = groups;
         next.further = further;
         next
     }
@@ -113,65 +75,35 @@ impl Memory {
 
     pub(crate) fn with_guard(self, guard: Guard) -> Memory {
         let caller = self.caller;
+        let groups = self.groups;
         let file = self.file;
-        let answer = self.answer;
-        let score = self.score;
+        let last = self.last;
         Memory {
             table: self.table,
             list: self.list,
             room: self.room,
             caller: caller,
+            groups: groups,
             further: self.further,
             file: file,
             guard: guard,
-            answer: answer,
-            score: score,
-            line: self.line,
+            last: last,
+            met: self.met,
+            missed: self.missed,
         }
     }
 
-    fn answering(self, answer: Said) -> Memory {
+    pub(crate) fn saying(self, last: Line) -> Memory {
         let mut next = self;
-        next.answer = answer;
+        next.last = last;
         next
     }
 
-    pub(crate) fn saying(self, words: Line) -> Memory {
-        self.answering(in_words(words))
-    }
-
-    pub(crate) fn showing(self, shown: Shown, size: usize) -> Memory {
-        self.answering(Said {
-            shown: shown,
-            words: text(b""),
-            size: size,
-        })
-    }
-
-    // One line more.
-    pub(crate) fn turned(self) -> Memory {
+    pub(crate) fn with_score(self, met: u64, missed: u64) -> Memory {
         let mut next = self;
-        next.line = std::num::wrapping_add_u64(self.line, 1);
+        next.met = met;
+        next.missed = missed;
         next
-    }
-
-    fn with_score(self, met: u64, missed: u64) -> Memory {
-        let score = Score {
-            met: met,
-            missed: missed,
-        };
-        let mut next = self;
-        next.score = score;
-        next
-    }
-
-    // One answer more was held against what was expected.
-    pub(crate) fn scoring(self, met: bool) -> Memory {
-        let old = self.score;
-        if met {
-            return self.with_score(std::num::wrapping_add_u64(old.met, 1), old.missed);
-        }
-        self.with_score(old.met, std::num::wrapping_add_u64(old.missed, 1))
     }
 }
 
@@ -183,6 +115,11 @@ pub(crate) fn least(a: usize, b: usize) -> usize
         return a;
     }
     b
+}
+
+pub(crate) fn first_ids<'a>(ids: &'a [u32], n: usize) -> &'a [u32] {
+    let n = least(n, ids.len());
+    &ids[0..n]
 }
 
 // The bytes at the start of a buffer, as many as there is room for.

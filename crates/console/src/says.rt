@@ -1,5 +1,7 @@
 // What the calls say, in the words of an answer.
+use crate::kind;
 use crate::texts::Line;
+use crate::texts::answer;
 use crate::texts::text;
 use edit::Edited;
 use evaluate::Verdict;
@@ -12,12 +14,12 @@ pub(crate) fn done() -> Line {
 }
 
 pub(crate) fn done_with(n: u64) -> Line {
-    text(b"done ").counted(b"", n)
+    answer(kind::WORDS, n as usize, b"done ").counted(b"", n)
 }
 
 // A line that is not understood.
 pub(crate) fn error(why: &[u8]) -> Line {
-    text(b"error ").with(why)
+    answer(kind::ERROR, 0, b"error ").with(why)
 }
 
 pub(crate) fn refused(number: u8) -> Line {

@@ -1,24 +1,29 @@
 // The buffers in hex.
 use crate::amounts::amount;
-use crate::memory::Memory;
-use crate::memory::Shown;
+use crate::commands::place_among;
+use crate::kind;
 use crate::says::error;
 use crate::spaced::count;
 use crate::spaced::word;
-use check::same;
+use crate::texts::Line;
+use crate::texts::answer;
 
-pub(crate) fn show(line: &[u8], memory: Memory) -> Memory {
-    let what = word(line, 1);
+fn shown(kind: u8, size: usize) -> Line {
+    answer(kind, size, b"")
+}
+
+pub(crate) fn show(line: &[u8], table: usize, list: usize) -> Line {
+    let what = place_among(word(line, 1), b"table list out");
     let alone = count(line) == 2;
-    if alone & same(what, b"table") {
-        return memory.showing(Shown::Table, memory.table);
+    if alone & (what == 0) {
+        return shown(kind::TABLE, table);
     }
-    if alone & same(what, b"list") {
-        return memory.showing(Shown::List, memory.list);
+    if alone & (what == 1) {
+        return shown(kind::LIST, list);
     }
     let length = amount(word(line, 2), 16384);
-    if length.fits & same(what, b"out") {
-        return memory.showing(Shown::Out, length.value as usize);
+    if length.fits & (what == 2) {
+        return shown(kind::OUT, length.value as usize);
     }
-    memory.saying(error(b"show table, show list, or show out LENGTH, up to 16384"))
+    error(b"show table, show list, or show out LENGTH, up to 16384")
 }

@@ -1,4 +1,5 @@
 // Lines of text, put together before they are written.
+use crate::kind;
 use crate::memory::least;
 use check::same;
 use libc::STDOUT_FILENO;
@@ -9,6 +10,9 @@ ghost use lib.ListN.{length};
 pub struct Line {
     pub letters: [u8; 256],
     pub length: usize,
+    // What it is as an answer, and the length that is shown, or set.
+    pub kind: u8,
+    pub size: usize,
 }
 
 // Letters to standard output.
@@ -16,7 +20,7 @@ pub(crate) fn write(letters: &[u8]) {
     io::write_all(STDOUT_FILENO, letters);
 }
 
-fn first<'a>(letters: &'a [u8], n: usize) -> &'a [u8] {
+pub(crate) fn first<'a>(letters: &'a [u8], n: usize) -> &'a [u8] {
     let n = least(n, letters.len());
     &letters[0..n]
 }
@@ -38,12 +42,18 @@ fn paste(letters: &[u8], buffer: &mut [u8], at: usize) -> usize
     end
 }
 
-pub(crate) fn text(letters: &[u8]) -> Line {
+pub(crate) fn answer(kind: u8, size: usize, letters: &[u8]) -> Line {
     let none = Line {
         letters: [0u8; 256],
         length: 0,
+        kind: kind,
+        size: size,
     };
     none.with(letters)
+}
+
+pub(crate) fn text(letters: &[u8]) -> Line {
+    answer(kind::WORDS, 0, letters)
 }
 
 impl Line {
@@ -53,6 +63,8 @@ impl Line {
         Line {
             letters: all,
             length: end,
+            kind: self.kind,
+            size: self.size,
         }
     }
 

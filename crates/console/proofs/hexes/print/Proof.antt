@@ -1,15 +1,14 @@
-use Prim.Native.Nat.{_-_, _≤_}
+use Prim.Native.Nat.{_-_}
 use lib.ListN.{length}
-use mathlib.Core.Path.{_≡_}
 use borrow.Author.Needs.{needs}
 use Rattle.console.proofs.hexes.print.Statement.{statement}
 use Rattle.console.proofs.hexes.print.Tie as tie
 
 abbrev Inv-loop : tie.InvT-loop
-Inv-loop bytes piece₀ at₀ piece at = (length piece ≡ 4096) × (at ≤ length bytes)
+Inv-loop bytes piece₀ i₀ piece i = Unit {0}
 
 abbrev μ-loop : tie.MeasureT-loop
-μ-loop bytes piece₀ at₀ piece at = length bytes - at
+μ-loop bytes piece₀ i₀ piece i = length bytes - i
 
 pub print-spec : {M : Type 1} → statement M
 print-spec =
@@ -20,8 +19,6 @@ print-spec =
     (λ c. search needs)
     (λ c κs. search needs)
     (λ c. search needs)
-    (λ c κs. search needs)
-    (λ c. search needs)
     (λ c. search needs)
     (λ c κs. search needs)
     (λ c. search needs)
@@ -30,5 +27,5 @@ print-spec =
     (λ c. search needs)
     (λ c. search needs)
     (λ c. search needs)
-    (λ c. search needs)
+    (λ c κs. search needs)
     (λ c. search needs))

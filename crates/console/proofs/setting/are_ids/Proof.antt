@@ -4,10 +4,10 @@ use Rattle.console.proofs.setting.are_ids.Statement.{statement}
 use Rattle.console.proofs.setting.are_ids.Tie as tie
 
 abbrev Inv-loop : tie.InvT-loop
-Inv-loop line from n k₀ k = Unit {0}
+Inv-loop line from to k₀ k = Unit {0}
 
 abbrev μ-loop : tie.MeasureT-loop
-μ-loop line from n k₀ k = n - k
+μ-loop line from to k₀ k = to - k
 
 pub are-ids-spec : {M : Type 1} → statement M
 are-ids-spec =
@@ -15,7 +15,6 @@ are-ids-spec =
     (tie.spec
     Inv-loop
     μ-loop
-    (λ c κs. search needs)
     (λ c. search needs)
     (λ c κs. search needs)
     (λ c κs. search needs)

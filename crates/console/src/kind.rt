@@ -1,0 +1,10 @@
+// What an answer is: an error, other words, or the first bytes of a buffer.
+pub(crate) const ERROR: u8 = 0;
+
+pub(crate) const WORDS: u8 = 1;
+
+pub(crate) const TABLE: u8 = 2;
+
+pub(crate) const LIST: u8 = 3;
+
+pub(crate) const OUT: u8 = 4;

@@ -1,0 +1,91 @@
+// What is remembered after a line that was understood.
+use crate::amounts::MOST_32;
+use crate::amounts::amount;
+use crate::command;
+use crate::hexes::realm;
+use crate::kind;
+use crate::memory::Memory;
+use crate::spaced::count;
+use crate::spaced::word;
+use crate::texts::Line;
+use check::same;
+use evaluate::Caller;
+use evaluate::File;
+use rights::Guard;
+
+// The place of the first further group among the words of a line.
+const FURTHER: usize = 4;
+
+fn id(line: &[u8], k: usize) -> u32 {
+    amount(word(line, k), MOST_32).value as u32
+}
+
+// The ids from the first further group on, and answers how many.
+fn take_ids(line: &[u8], groups: &mut [u32]) -> usize {
+    let n = count(line);
+    let mut i = 0;
+    while i < groups.len() {
+        if n <= FURTHER {
+            return i;
+        }
+        if n - FURTHER <= i {
+            return i;
+        }
+        groups[i] = id(line, FURTHER + i);
+        i += 1;
+    }
+    i
+}
+
+fn caller_in(line: &[u8]) -> Caller {
+    Caller {
+        realm: realm(word(line, 1)),
+        user: id(line, 2),
+        group: id(line, 3),
+    }
+}
+
+fn with_caller(line: &[u8], memory: Memory) -> Memory {
+    let mut groups = [0u32; 40];
+    let further = take_ids(line, &mut groups);
+    memory.with_caller(caller_in(line), groups, further)
+}
+
+fn file_in(line: &[u8]) -> File {
+    File {
+        owner: id(line, 1),
+        group: id(line, 2),
+        dir: same(word(line, 3), b"dir"),
+    }
+}
+
+fn guard_in(line: &[u8]) -> Guard {
+    if same(word(line, 1), b"list") {
+        return Guard::List;
+    }
+    Guard::Mode {
+        realm: realm(word(line, 2)),
+        mode: id(line, 3),
+    }
+}
+
+// What a command sets, if it was understood.
+fn learn(command: usize, line: &[u8], n: usize, memory: Memory) -> Memory {
+    match command {
+        command::TABLE | command::LOAD => memory.with_lengths(n, memory.list, memory.room),
+        command::LIST | command::KEEP => memory.with_lengths(memory.table, n, memory.room),
+        command::ROOM => memory.with_lengths(memory.table, memory.list, n),
+        command::CALLER => with_caller(line, memory),
+        command::FILE => memory.with_file(file_in(line)),
+        command::GUARD => memory.with_guard(guard_in(line)),
+        _ => memory,
+    }
+}
+
+pub(crate) fn remember(command: usize, line: &[u8], said: Line, memory: Memory) -> Memory {
+    let next = memory.saying(said);
+    if said.kind == kind::ERROR {
+        return next;
+    }
+    learn(command, line, said.size, next)
+}
