@@ -2,20 +2,18 @@
 use crate::hexes;
 use crate::kind;
 use crate::memory::Memory;
-use crate::memory::least;
 use crate::spaced::rest;
 use crate::texts::Line;
+use crate::texts::first;
 use crate::texts::text;
 use crate::texts::write;
 
 fn print_bytes(buffer: &[u8], size: usize) {
-    let n = least(size, buffer.len());
-    hexes::print(&buffer[0..n]);
+    hexes::print(first(buffer, size));
 }
 
 fn are_spelled(buffer: &[u8], size: usize, letters: &[u8]) -> bool {
-    let n = least(size, buffer.len());
-    hexes::is_spelled(&buffer[0..n], letters)
+    hexes::is_spelled(first(buffer, size), letters)
 }
 
 // An answer, as a line.

@@ -1,9 +1,9 @@
 // The table's bytes from a file and to one.
-use crate::memory::copy;
 use crate::says::done_with;
 use crate::says::error;
 use crate::spaced::word;
 use crate::texts::Line;
+use crate::texts::paste;
 
 // No byte is left, and that could be seen.
 fn is_ended(fd: i32) -> bool {
@@ -23,7 +23,7 @@ pub(crate) fn load(line: &[u8], table: &mut [u8]) -> Line {
     if !ended {
         return error(b"FILE cannot be read, or has more than 65536 bytes");
     }
-    copy(&bytes[..n], table);
+    paste(&bytes[..n], table, 0);
     done_with(n as u64)
 }
 

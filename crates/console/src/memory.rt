@@ -121,15 +121,3 @@ pub(crate) fn first_ids<'a>(ids: &'a [u32], n: usize) -> &'a [u32] {
     let n = least(n, ids.len());
     &ids[0..n]
 }
-
-// The bytes at the start of a buffer, as many as there is room for.
-pub(crate) fn copy(from: &[u8], to: &mut [u8]) {
-    let mut i = 0;
-    while i < to.len() {
-        if from.len() <= i {
-            return;
-        }
-        to[i] = from[i];
-        i += 1;
-    }
-}

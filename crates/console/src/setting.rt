@@ -5,7 +5,6 @@ use crate::hexes::are_bytes;
 use crate::hexes::is_dash;
 use crate::hexes::write_bytes;
 use crate::kind;
-use crate::memory::copy;
 use crate::memory::least;
 use crate::says::done;
 use crate::says::done_with;
@@ -14,6 +13,7 @@ use crate::spaced::count;
 use crate::spaced::word;
 use crate::texts::Line;
 use crate::texts::answer;
+use crate::texts::paste;
 use check::same;
 use table::WIDTH;
 
@@ -78,7 +78,7 @@ pub(crate) fn keep(line: &[u8], list: &mut [u8], out: &[u8]) -> Line {
         return error(b"LENGTH is a number up to 16384");
     }
     let n = least(length.value as usize, out.len());
-    copy(&out[0..n], list);
+    paste(&out[0..n], list, 0);
     done_with(n as u64)
 }
 

@@ -26,7 +26,7 @@ pub(crate) fn first<'a>(letters: &'a [u8], n: usize) -> &'a [u8] {
 }
 
 // The letters at a place of a buffer, as many as there is room for; the place after them.
-fn paste(letters: &[u8], buffer: &mut [u8], at: usize) -> usize
+pub(crate) fn paste(letters: &[u8], buffer: &mut [u8], at: usize) -> usize
     ensures { λ _. ⌜ length (now (buffer .exit)) ≡ length (now (buffer .entry)) ⌝ }
 {
     let mut end = at;
