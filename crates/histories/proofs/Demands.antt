@@ -1,18 +1,20 @@
 -- The customer's demands hold of every table that calls reach. Assumes nothing.
 use mathlib.Core.Path.{_≡_, refl, sym, _∙_, ap}
 use mathlib.Core.Bool.{Bool, true, false}
-use mathlib.Core.List.{List, [], _∷_, _++_}
+use mathlib.Core.List.{List, [], _∷_, _++_, List·Memᴰ}
 use mathlib.Core.Logic.{_↔_}
 use Prim.Native.Nat.{ℕ, _*_, _≤_, _<_}
 use native.Mathlib.Decide.{ℕ-discrete}
 use native.Mathlib.Omega.{arith}
 use borrow.Author.Tests.{le-ltb}
+use denote.Ref.{now}
 use lib.Dec.{ltb}
 use lib.ListN.{length, drop}
 use Rattle.words.specs.Test.{if_then_else_}
-use Rattle.words.specs.Said.{Said, done, refused, isDone, andThen, left}
+use Rattle.words.specs.Said.{Said, done, refused, andThen, left}
 use Rattle.words.proofs.Tests.{those-few}
 use Rattle.words.proofs.Left.{left-kept, not-done}
+use Rattle.entry.specs.Plan.{planSays}
 use Rattle.claims.specs.Claim.{malformed}
 use Rattle.claims.specs.Rule.{Conflicting}
 use Rattle.claims.specs.declared.claim.Claim.{Claim}
@@ -23,7 +25,7 @@ use Rattle.table.specs.Layout.{tableOf, bytesOf}
 use Rattle.table.specs.Reply.{replySays}
 use Rattle.table.specs.Call.{saysOf, leftOf}
 use Rattle.table.specs.declared.reply.Reply.{Reply}
-use Rattle.table.specs.declared.reply.Reply.the-variants.{Value}
+use Rattle.table.specs.declared.reply.Reply.the-variants.{Done, Value}
 use Rattle.table.specs.declared.slot.Slot.the-variants.{Held}
 use Rattle.table.proofs.Determined.{same-reply}
 use Rattle.table.proofs.Means.{Ordered, table-bytes, bytes-formed, order-at, below-next}
@@ -39,48 +41,55 @@ use Rattle.access.specs.Access.{Access, accessSays}
 use Rattle.desk.specs.Order.{judgedSays}
 use Rattle.desk.specs.Grant.{grantSays}
 use Rattle.desk.specs.Ask.{askSays, Asks}
-use Rattle.histories.specs.Callback.{slotAt, Item, entriesIn, Listed, Turn, Returned, GivenBack}
-use Rattle.histories.specs.Demands.{AnswerOrRefusal, RefusalsChangeNothing, NoTwoConflict, Again, Served, StillHeld, LeastThatServes, Demand1, Demand2, Demand3, AskIsDone}
+use Rattle.exchange.specs.Answer.{truthSays}
+use Rattle.histories.specs.Shape.{Shape, shape, isAnswer, ofPut, ofDrop, ofFill, ofAsk, ofAskUnjudged, ofGrant, ofGrantUnjudged, ofReturn, ofDropHost, ofAudit}
+use Rattle.histories.specs.Callback.{slotAt, Item, entriesIn, Listed, Turn, Returned, GivenBack, Split}
+use Rattle.histories.specs.Demands.{Ends, NoTwoConflict, Again, Served, StillHeld, LeastThatServes, Demand1, Demand2, Demand3, AskIsDone}
 use Rattle.histories.proofs.Answers.{same-value}
-use Rattle.histories.proofs.Numbers.{of-bytes, judged-answers, fill-answers, list-answers, serve-answers, return-answers, drop-answers}
+use Rattle.histories.proofs.Shapes.{check-answers, evaluation-answers, decided-answers, access-answers, plan-put-answers, plan-drop-answers, put-answers, drop-entry-answers, fill-answers, ask-answers, ask-unjudged-answers, grant-answers, grant-unjudged-answers, return-answers, drop-answers}
 use Rattle.histories.proofs.Soundness.{Sound}
 use Rattle.histories.proofs.Spelling.{says-there, left-there}
 use Rattle.histories.proofs.Giving.{says, give, give-sound}
 use Rattle.histories.proofs.Turns.{giveAll, Answered, all-sound, all-limit, same-claim}
 use Rattle.histories.proofs.Entries.{entries, read-list}
 use Rattle.histories.proofs.Serving.{exactly, otherwise, once-returned, least}
-use Rattle.histories.proofs.Planning.{none-refused, all-given}
+use Rattle.histories.proofs.Planning.{givens, none-refused, all-given, whole-split}
 use Rattle.histories.proofs.Reaching.{reached-stands}
 
-module _ (r : Reply) (refusal : isDone (replySays r) ≡ false) where
-  unchanged : {said : Said} (new old after : List ℕ) → replySays r ≡ said → after ≡ left said new old → after ≡ old
-  unchanged {said} new old after p e = e ∙ left-kept said new old (rw (← p) refusal)
+-- a call that is lent a buffer ends as it says
+ends : {spoken : Said} (s : Shape) (said : Said) (new old after : List ℕ) → spoken ≡ said → isAnswer s said ≡ true → after ≡ left said new old → Ends s spoken old after
+ends s said new old after p a e = record { answers = rw p a; unchanged = λ f. e ∙ left-kept said new old (rw (← p) f) }
 
-  left-unchanged : (says : Table → Said) (changed : Table → Table) (bytes after : List ℕ) → replySays r ≡ saysOf says bytes → after ≡ leftOf says changed bytes → after ≡ bytes
-  unfolding leftOf
-  left-unchanged says changed bytes after p e = unchanged (bytesOf (changed (tableOf bytes))) bytes after p e
+table-ends : {spoken : Said} (s : Shape) (says : Table → Said) (changed : Table → Table) (bytes after : List ℕ) → spoken ≡ saysOf says bytes
+    → isAnswer s (saysOf says bytes) ≡ true → after ≡ leftOf says changed bytes → Ends s spoken bytes after
+unfolding leftOf
+table-ends s says changed bytes after p a e = ends s (saysOf says bytes) (bytesOf (changed (tableOf bytes))) bytes after p a e
 
-  changes-nothing : RefusalsChangeNothing r
-  changes-nothing = record {
-    fill = λ bytes after f. unchanged _ bytes after (f .answer) (f .table-after);
-    ask = λ bytes out after claim access a. unchanged _ out after (a .answer) (a .out-after);
-    grant = λ bytes after claim access g. left-unchanged _ _ bytes after (g .answer) (g .table-after);
-    give-back = λ bytes after host number types g. left-unchanged _ _ bytes after (g .answer) (g .table-after);
-    drop-host = λ bytes after host d. left-unchanged _ _ bytes after (d .answer) (d .table-after);
-  }
-
-answers : (r : Reply) → AnswerOrRefusal r
-unfolding grantSays askSays
-answers r = record {
-  fill = λ bytes after f. rw (f .answer) (fill-answers bytes);
-  ask = λ bytes out after claim access a. rw (a .answer) (of-bytes (askSays claim access out) bytes (λ t. judged-answers claim access (listSays claim out) t (list-answers claim out t)));
-  grant = λ bytes after claim access g. rw (g .answer) (of-bytes (grantSays claim access) bytes (λ t. judged-answers claim access (serveSays claim) t (serve-answers claim t)));
-  give-back = λ bytes after host number types g. rw (g .answer) (of-bytes (returnSays host number types) bytes (return-answers host number types));
-  drop-host = λ bytes after host d. rw (d .answer) (of-bytes (dropSays host) bytes (drop-answers host));
-}
+audit-answers : (truth : Bool) → isAnswer ofAudit (truthSays truth) ≡ true
+unfolding isAnswer truthSays ofAudit shape
+audit-answers truth = refl
 
 pub demand1 : Demand1
-demand1 r = (answers r, changes-nothing r)
+unfolding planSays
+demand1 = record {
+  check = λ list r c. rw (c .answer) (check-answers list);
+  evaluate = λ list groups caller file r e. rw (e .answer) (evaluation-answers list groups caller file);
+  decide = λ list groups caller file guard r f. rw (f .answer) (decided-answers list groups caller file guard);
+  rights = λ list groups caller file guard r d. rw (d .answer) (decided-answers (now list) groups caller file guard);
+  judge = λ access types r j. rw (j .answer) (access-answers access types);
+  plan-put = λ list entry r p. rw (p .answer) (plan-put-answers list entry _ _ _ _);
+  plan-drop = λ list entry r p. rw (p .answer) (plan-drop-answers list entry _ _ _ _);
+  audit = λ bytes r a. audit-answers r;
+  put = λ list out after entry r p. ends ofPut _ _ out after (p .answer) (put-answers list entry out) (p .out-after);
+  drop-entry = λ list out after entry r p. ends ofDrop _ _ out after (p .answer) (drop-entry-answers list entry out) (p .out-after);
+  fill = λ bytes after r f. ends ofFill _ _ bytes after (f .answer) (fill-answers bytes) (f .table-after);
+  ask = λ bytes out after claim access r a. ends ofAsk _ _ out after (a .answer) (ask-answers claim access out bytes) (a .out-after);
+  ask-unjudged = λ bytes out after claim r a. ends ofAskUnjudged _ _ out after (a .answer) (ask-unjudged-answers claim out bytes) (a .out-after);
+  grant = λ bytes after claim access r g. table-ends ofGrant _ _ bytes after (g .answer) (grant-answers claim access bytes) (g .table-after);
+  grant-unjudged = λ bytes after claim r g. table-ends ofGrantUnjudged _ _ bytes after (g .answer) (grant-unjudged-answers claim bytes) (g .table-after);
+  give-back = λ bytes after host number types r g. table-ends ofReturn _ _ bytes after (g .answer) (return-answers host number types bytes) (g .table-after);
+  drop-host = λ bytes after host r d. table-ends ofDropHost _ _ bytes after (d .answer) (drop-answers host bytes) (d .table-after);
+}
 
 -- of the bytes of a sound table
 module _ (t : Table) (s : Sound t) where
@@ -182,6 +191,9 @@ module _ (t : Table) (s : Sound t) (claim : Claim) (shaped : malformed claim (li
     all-returned : ((x : Item) → Listed (entries claim (t .slots)) x → GivenBack turns x) → Served now said
     all-returned all = served (once-returned claim t s turns (c .answers) all)
 
+    split-served : Split (entries claim (t .slots)) (givens turns) → ((turn : Turn) → List·Memᴰ turn turns → turn .reply ≡ Done) × Served now said
+    split-served p = (none-refused claim t s turns p (c .answers), all-returned (all-given claim t s turns p (c .answers)))
+
     of-request : LeastThatServes (entries claim (t .slots)) turns now said
     of-request = record {
       exactly = still-held;
@@ -189,7 +201,8 @@ module _ (t : Table) (s : Sound t) (claim : Claim) (shaped : malformed claim (li
       once-returned = all-returned;
       while-held = λ x l h. still-held .1 (record { item = x; listed = l; held = h });
       least = λ e. least claim t s turns (c .answers) (sym (c .says) ∙ e ∙ ap roomSays (c .table));
-      in-any-order = λ es order are. (none-refused claim t s es order turns are (c .answers), all-returned (all-given claim t s es order turns are (c .answers)));
+      in-any-order = λ es order are. split-served (rw are (whole-split claim t s es order));
+      split = split-served;
     }
 
 few-in-the-way : (claim : Claim) (t : Table) → length (inTheWay claim t) ≤ length (t .slots)
@@ -211,12 +224,12 @@ module _ (t : Table) (s : Sound t) (bytes : List ℕ) (spelled : bytes ≡ bytes
       rw read (of-request t s claim (told .0) turns now said (rw spelled at again))
 
   -- thirteen bytes for each slot are enough
-  enough : malformed claim (limit t) ≡ false → accessSays access (claim .types) ≡ done [] → 13 * 1024 ≤ length out
+  enough : malformed claim (limit t) ≡ false → accessSays access (claim .types) ≡ done [] → 13 * length (t .slots) ≤ length out
       → (r : Reply) (after : List ℕ) → Asks bytes claim access out r after → (count : ℕ) × (r ≡ Value count)
   unfolding askSays judgedSays requestSays andThen listSays replySays
   enough shaped permitted room r after a =
       let o = s .order in
-      let few : length (listFor claim t) ≤ length out = omega (arith, list-length claim t, few-in-the-way claim t, o .few) in
+      let few : length (listFor claim t) ≤ length out = omega (arith, list-length claim t, few-in-the-way claim t) in
       let says : askSays claim access out t ≡ done (length (inTheWay claim t) ∷ []) = rw (shaped, permitted, le-ltb (length out) (length (listFor claim t)) few) refl in
       (length (inTheWay claim t), same-reply r (Value (length (inTheWay claim t))) (rw spelled at (a .answer) ∙ says-there (askSays claim access out) t o ∙ says) refl)
 
@@ -227,4 +240,4 @@ pub ask-is-done : AskIsDone
 ask-is-done bytes r claim shaped access permitted out room =
     let p = reached-stands bytes r in
     let same : tableOf bytes ≡ p .table = ap tableOf (p .spelled) ∙ table-bytes (p .table) (p .sound .order) in
-    enough (p .table) (p .sound) bytes (p .spelled) claim access out (rw same at shaped) permitted room
+    enough (p .table) (p .sound) bytes (p .spelled) claim access out (rw same at shaped) permitted (rw same at room)

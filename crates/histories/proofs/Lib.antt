@@ -1,5 +1,5 @@
 pub mod Answers
-pub mod Numbers
+pub mod Shapes
 pub mod Places
 pub mod Soundness
 pub mod Spelling

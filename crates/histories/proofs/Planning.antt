@@ -1,23 +1,22 @@
--- One return for each entry of an ask's list, in any order: none of them is refused. Assumes nothing.
+-- Returns of what an ask lists, whole entries or split in any way, in any order and mixed: none of them is refused. Assumes nothing.
 use mathlib.Core.Path.{_≡_, refl, sym, _∙_, ap}
 use mathlib.Core.Bool.{Bool, true, false, cond, not, _||_, _&&_}
-use mathlib.Core.List.{List, [], _∷_, map, List·Memᴰ, List·Memᴰ·head, List·Memᴰ·tail, List·Memᴰ·not-nil, List·Memᴰ·cases-cons}
+use mathlib.Core.List.{List, [], _∷_, map, List·Memᴰ, List·Memᴰ·head, List·Memᴰ·tail, List·Memᴰ·not-nil, List·Memᴰ·cases-cons, Memᴰ·map, Memᴰ·of-map}
 use mathlib.Core.Logic.{_≢_, _⊎_, inl, inr}
-use Prim.Native.Nat.{ℕ, suc, _≤_}
+use Prim.Native.Nat.{ℕ, suc, _≤_, _<_}
 use native.Mathlib.Omega.{arith}
 use borrow.Author.Tests.{eqb-true, eq-eqb, ne-eqb, le-ltb, ltb-false, not-true}
 use lib.Dec.{eqb, ltb}
-use lib.ListN.{length, getD}
-use lib.Seq.{getD-set-other}
-use Rattle.words.specs.Test.{those}
+use lib.ListN.{getD}
+use Rattle.words.specs.Test.{those, anyOf}
 use Rattle.words.specs.Said.{done}
 use Rattle.words.specs.Bit.{bit}
-use Rattle.words.proofs.Tests.{differ, and-left, and-both, or-left, or-right}
+use Rattle.words.proofs.Tests.{differ, fails, and-left, and-both, or-left, or-right}
+use Rattle.claims.specs.Types.{kinds}
 use Rattle.claims.specs.Claim.{unfit, malformed}
-use Rattle.claims.specs.Rule.{conflict}
 use Rattle.claims.specs.declared.claim.Claim.{Claim}
+use Rattle.claims.proofs.Sets.{member, part-less}
 use Rattle.claims.proofs.Fewer.{none-lacking}
-use Rattle.claims.proofs.Within.{conflict-own, conflict-less}
 use Rattle.table.specs.Table.{Table, limit}
 use Rattle.table.specs.Form.{isToken}
 use Rattle.table.specs.Reply.{replySays}
@@ -27,72 +26,31 @@ use Rattle.table.specs.declared.slot.Slot.the-variants.{Free, Held}
 use Rattle.table.proofs.Means.{Ordered, order-at}
 use Rattle.table.proofs.Determined.{same-reply}
 use Rattle.tokens.specs.Grant.{isInTheWay}
-use Rattle.returns.specs.Return.{isOf, typesIn, placeIn, tokenIn, returnSays, returned}
+use Rattle.returns.specs.Return.{isOf, typesIn, placeIn, tokenIn, returnSays}
 use Rattle.audit.specs.Audit.{apart}
 use Rattle.audit.proofs.Exactly.{tokens-apart}
 use Rattle.histories.specs.History.{Return}
-use Rattle.histories.specs.Callback.{slotAt, Item, Entry, Listed, Turn, GivenBack, returnOf, Reordered}
+use Rattle.histories.specs.Callback.{slotAt, Item, Holds, Entry, Listed, Turn, Names, GivenBack, returnOf, Reordered, NoneTwice, Split}
 use Rattle.histories.proofs.Places.{any-at, there}
 use Rattle.histories.proofs.Soundness.{Sound, free-harmless}
-use Rattle.histories.proofs.Giving.{says, place, give, taken, give-sound, give-limit, give-done}
-use Rattle.histories.proofs.Turns.{Answered, one-token, same-number}
+use Rattle.histories.proofs.Giving.{says, give, give-sound}
+use Rattle.histories.proofs.Turns.{Answered, one-token, give-holds}
 use Rattle.histories.proofs.Entries.{entryOf, entries, source}
+use Rattle.histories.proofs.Serving.{listed-holds}
 use Rattle.histories.proofs.Reorders.{Once, from-reordered, to-reordered, once-reordered}
 
--- an entry that can be given back whole
-pub record Ready (t : Table) (e : Entry) : Type 0 where
-  pub spot : ℕ
-  pub claim : Claim
-  pub at : slotAt t spot ≡ Held (e .number) claim
-  pub host : claim .host ≡ e .host
-  pub fewer : (i : ℕ) → bit i (e .types) ≡ true → bit i (claim .types) ≡ true
-  pub fit : unfit (e .host) (e .types) (limit t) ≡ false
+-- a type that a return names
+abbrev item : Return → ℕ → Item
+item g i = record { number = g .number; host = g .host; type = i }
+
+-- a return that names types, and all that it names is held
+record Ready (t : Table) (g : Return) : Type 0 where
+  pub some : g .types ≢ 0
+  pub held : (i : ℕ) → bit i (g .types) ≡ true → (i < kinds) × Holds t (item g i)
 
 free-not : (host number : ℕ) → isOf host number Free ≡ false
 unfolding isOf
 free-not host number = refl
-
-module _ (t : Table) (e : Entry) (r : Ready t e) where
-  its-token : isOf (e .host) (e .number) (slotAt t (r .spot)) ≡ true
-  unfolding isOf
-  its-token =
-      rw (r .at)
-      (and-both (eqb (e .number) (e .number)) (eqb (r .claim .host) (e .host)) (eq-eqb (e .number) (e .number) refl) (eq-eqb (r .claim .host) (e .host) (r .host)))
-
-  -- the place where a return looks is the entry's
-  its-types : Sound t → typesIn (slotAt t (placeIn (e .host) (e .number) (e .types) t)) ≡ r .claim .types
-  unfolding typesIn placeIn isOf
-  its-types sound = go (slotAt t k) refl (there (isOf (e .host) (e .number)) (t .slots) (any-at (isOf (e .host) (e .number)) (free-not (e .host) (e .number)) (t .slots) (r .spot) its-token))
-    where
-      k : ℕ
-      k = placeIn (e .host) (e .number) (e .types) t
-
-      go : (slot : Slot) → slotAt t k ≡ slot → isOf (e .host) (e .number) slot ≡ true → typesIn slot ≡ r .claim .types
-      go Free p q = absurd (differ (sym q))
-      go (Held number held) p q =
-          let z : number ≡ e .number = eqb-true number (e .number) (and-left (eqb number (e .number)) (eqb (held .host) (e .host)) q) in
-          ap (λ (c : Claim). c .types) (one-token t sound k (r .spot) (e .number) held (r .claim) (rw z at p) (r .at))
-
-  ready-says : Sound t → says (returnOf e) t ≡ done []
-  unfolding returnSays tokenIn
-  ready-says sound =
-      rw (r .fit, any-at (isOf (e .host) (e .number)) (free-not (e .host) (e .number)) (t .slots) (r .spot) its-token, its-types sound, none-lacking (r .claim .types) (e .types) (r .fewer))
-      refl
-
--- the return of one token leaves the others
-ready-stays : (t : Table) (e f : Entry) → says (returnOf e) t ≡ done [] → f .number ≢ e .number → Ready t f → Ready (give (returnOf e) t) f
-unfolding returned tokenIn
-ready-stays t e f c d r =
-    let o = taken (returnOf e) t [] c in
-    let n : r .spot ≢ place (returnOf e) t = λ z. d (same-number (sym (r .at) ∙ ap (slotAt t) z ∙ o .at)) in
-    record {
-      spot = r .spot;
-      claim = r .claim;
-      at = rw (give-done (returnOf e) t [] c) (getD-set-other (t .slots) (place (returnOf e) t) (r .spot) _ Free n ∙ r .at);
-      host = r .host;
-      fewer = r .fewer;
-      fit = rw (give-limit (returnOf e) t) (r .fit);
-    }
 
 -- some of a well-formed token's types are fit to be returned
 fit-types : (top : ℕ) (held : Claim) (types : ℕ) → malformed held top ≡ false → types ≢ 0 → types ≤ held .types → unfit (held .host) types top ≡ false
@@ -110,21 +68,100 @@ unfolding Ordered isToken
 shaped-in top next number held o =
     not-true (malformed held top) (and-left (not (malformed held top)) (ltb 0 number) (and-left (not (malformed held top) && ltb 0 number) (ltb number next) (o .0)))
 
-module _ (claim : Claim) (t : Table) (sound : Sound t) where
-  -- what an ask lists can be given back
-  listed-ready : (e : Entry) → List·Memᴰ e (entries claim (t .slots)) → Ready t e
-  unfolding entryOf
-  listed-ready e m =
-      let s = source claim (t .slots) e m in
-      let o : Ordered (limit t) (t .next) (Held (s .number) (s .held)) = rw (s .at) at (order-at t (sound .order) (s .place)) in
-      rw (s .is) (record {
-        spot = s .place;
-        claim = s .held;
-        at = s .at;
-        host = refl;
-        fewer = λ i p. conflict-own (s .held) claim i p .0;
-        fit = fit-types (limit t) (s .held) (conflict (s .held) claim) (shaped-in (limit t) (t .next) (s .number) (s .held) o) (s .conflicts) (conflict-less (s .held) claim);
+-- a return that is ready is done
+module _ (t : Table) (sound : Sound t) (g : Return) (r : Ready t g) where
+  -- the token, by one of its types
+  one : (i : ℕ) × (bit i (g .types) ≡ true)
+  one = member (g .types) (r .some)
+
+  token : Holds t (item g (one .0))
+  token = r .held (one .0) (one .1) .1
+
+  all-held : (i : ℕ) → bit i (g .types) ≡ true → bit i (token .claim .types) ≡ true
+  all-held i p =
+      let h = r .held i p .1 in
+      rw (← one-token t sound (h .place) (token .place) (g .number) (h .claim) (token .claim) (h .at) (token .at)) (h .type)
+
+  is-fit : unfit (g .host) (g .types) (limit t) ≡ false
+  is-fit =
+      let o : Ordered (limit t) (t .next) (Held (g .number) (token .claim)) = rw (token .at) at (order-at t (sound .order) (token .place)) in
+      let less : g .types ≤ token .claim .types = part-less (g .types) (token .claim .types) all-held in
+      rw (token .host) at (fit-types (limit t) (token .claim) (g .types) (shaped-in (limit t) (t .next) (g .number) (token .claim) o) (r .some) less)
+
+  its-token : isOf (g .host) (g .number) (slotAt t (token .place)) ≡ true
+  unfolding isOf
+  its-token =
+      rw (token .at)
+      (and-both (eqb (g .number) (g .number)) (eqb (token .claim .host) (g .host)) (eq-eqb (g .number) (g .number) refl) (eq-eqb (token .claim .host) (g .host) (token .host)))
+
+  found : anyOf (isOf (g .host) (g .number)) (t .slots) ≡ true
+  found = any-at (isOf (g .host) (g .number)) (free-not (g .host) (g .number)) (t .slots) (token .place) its-token
+
+  -- the place where a return looks is the token's
+  its-types : typesIn (slotAt t (placeIn (g .host) (g .number) (g .types) t)) ≡ token .claim .types
+  unfolding typesIn placeIn isOf
+  its-types = go (slotAt t k) refl (there (isOf (g .host) (g .number)) (t .slots) found)
+    where
+      k : ℕ
+      k = placeIn (g .host) (g .number) (g .types) t
+
+      go : (slot : Slot) → slotAt t k ≡ slot → isOf (g .host) (g .number) slot ≡ true → typesIn slot ≡ token .claim .types
+      go Free p q = absurd (differ (sym q))
+      go (Held number held) p q =
+          let z : number ≡ g .number = eqb-true number (g .number) (and-left (eqb number (g .number)) (eqb (held .host) (g .host)) q) in
+          ap (λ (c : Claim). c .types) (one-token t sound k (token .place) (g .number) held (token .claim) (rw z at p) (token .at))
+
+  ready-says : says g t ≡ done []
+  unfolding returnSays tokenIn
+  ready-says = rw (is-fit, found, its-types, none-lacking (token .claim .types) (g .types) all-held) refl
+
+-- a return leaves ready what names none of its types
+ready-stays : (t : Table) (g h : Return) → says g t ≡ done [] → ((x : Item) → Names g x → Names h x → ⊥) → Ready t h → Ready (give g t) h
+ready-stays t g h c apart r = record {
+  some = r .some;
+  held = λ i p.
+      let w = r .held i p in (
+        w .0,
+        give-holds t g (item h i) (w .0) (w .1) [] c
+            (λ n o. fails (bit i (g .types)) (λ q. apart (item h i) (record { number = n; host = o; type = q }) (record { number = refl; host = refl; type = p }))),
+      );
+}
+
+abbrev pub givens : List Turn → List Return
+givens = map (λ (turn : Turn). turn .given)
+
+-- returns that are ready and name nothing twice are done, one after the other
+all-done : (turns : List Turn) (t : Table) → Sound t → ((g : Return) → List·Memᴰ g (givens turns) → Ready t g) → NoneTwice (givens turns)
+    → Answered turns t → (turn : Turn) → List·Memᴰ turn turns → turn .reply ≡ Done
+unfolding Answered NoneTwice replySays
+all-done [] t sound ready apart answers turn m = absurd (List·Memᴰ·not-nil m)
+all-done (first ∷ turns) t sound ready apart answers turn m =
+    go (List·Memᴰ·cases-cons m)
+    (all-done turns (give (first .given) t) (give-sound (first .given) t sound)
+    (λ h n. ready-stays t (first .given) h says-done (apart .0 h n) (ready h (List·Memᴰ·tail n))) (apart .1) (answers .1) turn)
+  where
+    says-done : says (first .given) t ≡ done []
+    says-done = ready-says t sound (first .given) (ready (first .given) (List·Memᴰ·head refl))
+
+    go : (turn ≡ first) ⊎ List·Memᴰ turn turns → (List·Memᴰ turn turns → turn .reply ≡ Done) → turn .reply ≡ Done
+    go (inl p) rest = rw p (same-reply (first .reply) Done (answers .0 ∙ says-done) refl)
+    go (inr p) rest = rest p
+
+module _ (claim : Claim) (t : Table) (sound : Sound t) (turns : List Turn) (split : Split (entries claim (t .slots)) (givens turns)) (answers : Answered turns t) where
+  pub none-refused : (turn : Turn) → List·Memᴰ turn turns → turn .reply ≡ Done
+  none-refused =
+      all-done turns t sound
+      (λ g m. record {
+        some = split .some g m;
+        held = λ i p. listed-holds claim t (item g i) (split .listed g m (item g i) (record { number = refl; host = refl; type = p }));
       })
+      (split .none-twice) answers
+
+  pub all-given : (x : Item) → Listed (entries claim (t .slots)) x → GivenBack turns x
+  all-given x l =
+      let w = split .all x l in
+      let o = Memᴰ·of-map (λ (turn : Turn). turn .given) turns (w .1) in
+      record { turn = o .0; member = o .1; done = none-refused (o .0) (o .1); names = rw (o .2) (w .2) }
 
 -- an ask lists each number once
 once-listed : (claim : Claim) (slots : List Slot) → ((i j : ℕ) → i ≢ j → apart (getD slots i Free) (getD slots j Free) ≡ true) → Once (entries claim slots)
@@ -144,69 +181,38 @@ once-listed claim (slot ∷ slots) h = go slot (isInTheWay claim slot) refl h (o
             let w : apart (Held number held) (getD slots (s .place) Free) ≡ true = h 0 (suc (s .place)) (λ e. absurd (omega arith)) in
             tokens-apart number (s .number) held (s .held) (rw (s .at) at w) .0 (sym z ∙ ap (λ (e : Entry). e .number) (s .is))
 
--- the turns are the returns of these entries, in this order
-abbrev pub AreReturns : List Turn → List Entry → Type 0
-AreReturns turns es = map (λ (turn : Turn). turn .given) turns ≡ map returnOf es
+-- one return for each of some entries names nothing twice
+whole-apart : (es : List Entry) → Once es → NoneTwice (map returnOf es)
+unfolding Once NoneTwice
+whole-apart [] once = tt
+whole-apart (e ∷ es) once = (
+  λ h m x p q. let o = Memᴰ·of-map returnOf es m in once .0 (o .0) (o .1) (ap (λ (g : Return). g .number) (o .2) ∙ q .number ∙ sym (p .number)),
+  whole-apart es (once .1),
+)
 
-first-given : (x y : Return) (xs ys : List Return) → x ∷ xs ≡ y ∷ ys → x ≡ y
-first-given x y xs ys e = cc
+-- one return for each entry of an ask's list, in any order, is a way to split it
+module _ (claim : Claim) (t : Table) (sound : Sound t) (es : List Entry) (order : Reordered es (entries claim (t .slots))) where
+  whole-some : (g : Return) → List·Memᴰ g (map returnOf es) → g .types ≢ 0
+  unfolding entryOf
+  whole-some g m =
+      let o = Memᴰ·of-map returnOf es m in
+      let s = source claim (t .slots) (o .0) (from-reordered es (entries claim (t .slots)) order (o .0) (o .1)) in
+      rw (← o .2, s .is) (s .conflicts)
 
-rest-given : (x y : Return) (xs ys : List Return) → x ∷ xs ≡ y ∷ ys → xs ≡ ys
-rest-given x y xs ys e = cc
+  whole-listed : (g : Return) → List·Memᴰ g (map returnOf es) → (x : Item) → Names g x → Listed (entries claim (t .slots)) x
+  whole-listed g m x p =
+      let o = Memᴰ·of-map returnOf es m in
+      let q : Names (returnOf (o .0)) x = rw (o .2) p in
+      record { entry = o .0; member = from-reordered es (entries claim (t .slots)) order (o .0) (o .1); number = q .number; host = q .host; type = q .type }
 
-none-given : {A : Type 0} (x : Return) (xs : List Return) → x ∷ xs ≡ [] → A
-none-given x xs e = absurd (let z : _≡_ {A = ℕ} (length (x ∷ xs)) 0 = ap length e in omega arith)
-
-all-done : (es : List Entry) (t : Table) → Sound t → ((e : Entry) → List·Memᴰ e es → Ready t e) → Once es
-    → (turns : List Turn) → AreReturns turns es → Answered turns t → (turn : Turn) → List·Memᴰ turn turns → turn .reply ≡ Done
-unfolding Answered Once replySays
-all-done es t sound ready once [] are answers turn m = absurd (List·Memᴰ·not-nil m)
-all-done [] t sound ready once (first ∷ turns) are answers turn m = none-given _ _ are
-all-done (e ∷ es) t sound ready once (first ∷ turns) are answers turn m =
-    go (List·Memᴰ·cases-cons m)
-    (all-done es (give (first .given) t) (give-sound (first .given) t sound)
-    (λ f n. rw given (ready-stays t e f says-done (once .0 f n) (ready f (List·Memᴰ·tail n)))) (once .1) turns (rest-given (first .given) (returnOf e) _ _ are) (answers .1) turn)
-  where
-    given : first .given ≡ returnOf e
-    given = first-given (first .given) (returnOf e) _ _ are
-
-    says-done : says (returnOf e) t ≡ done []
-    says-done = ready-says t e (ready e (List·Memᴰ·head refl)) sound
-
-    go : (turn ≡ first) ⊎ List·Memᴰ turn turns → (List·Memᴰ turn turns → turn .reply ≡ Done) → turn .reply ≡ Done
-    go (inl p) rest = rw p (same-reply (first .reply) Done (answers .0 ∙ rw given says-done) refl)
-    go (inr p) rest = rest p
-
--- each entry has its turn
-record Returning (turns : List Turn) (e : Entry) : Type 0 where
-  pub turn : Turn
-  pub member : List·Memᴰ turn turns
-  pub given : turn .given ≡ returnOf e
-
-its-turn : (es : List Entry) (turns : List Turn) → AreReturns turns es → (e : Entry) → List·Memᴰ e es → Returning turns e
-its-turn [] turns are e m = absurd (List·Memᴰ·not-nil m)
-its-turn (f ∷ es) [] are e m = none-given _ _ (sym are)
-its-turn (f ∷ es) (first ∷ turns) are e m = go (List·Memᴰ·cases-cons m) (its-turn es turns (rest-given (first .given) (returnOf f) _ _ are) e)
-  where
-    go : (e ≡ f) ⊎ List·Memᴰ e es → (List·Memᴰ e es → Returning turns e) → Returning (first ∷ turns) e
-    go (inl p) rest = record { turn = first; member = List·Memᴰ·head refl; given = rw p (first-given (first .given) (returnOf f) _ _ are) }
-    go (inr p) rest = let r = rest p in record { turn = r .turn; member = List·Memᴰ·tail (r .member); given = r .given }
-
-module _ (claim : Claim) (t : Table) (sound : Sound t) (es : List Entry) (order : Reordered es (entries claim (t .slots)))
-    (turns : List Turn) (are : AreReturns turns es) (answers : Answered turns t) where
-  pub none-refused : (turn : Turn) → List·Memᴰ turn turns → turn .reply ≡ Done
-  none-refused =
-      all-done es t sound (λ e m. listed-ready claim t sound e (from-reordered es (entries claim (t .slots)) order e m))
-      (once-reordered es (entries claim (t .slots)) order (once-listed claim (t .slots) (sound .all .at))) turns are answers
-
-  pub all-given : (x : Item) → Listed (entries claim (t .slots)) x → GivenBack turns x
-  all-given x l =
-      let r = its-turn es turns are (l .entry) (to-reordered es (entries claim (t .slots)) order (l .entry) (l .member)) in
-      record {
-        turn = r .turn;
-        member = r .member;
-        done = none-refused (r .turn) (r .member);
-        number = ap (λ (g : Return). g .number) (r .given) ∙ l .number;
-        host = ap (λ (g : Return). g .host) (r .given) ∙ l .host;
-        type = rw (r .given) (l .type);
-      }
+  pub whole-split : Split (entries claim (t .slots)) (map returnOf es)
+  whole-split = record {
+    some = whole-some;
+    listed = whole-listed;
+    none-twice = whole-apart es (once-reordered es (entries claim (t .slots)) order (once-listed claim (t .slots) (sound .all .at)));
+    all = λ x l. (
+      returnOf (l .entry),
+      Memᴰ·map returnOf (to-reordered es (entries claim (t .slots)) order (l .entry) (l .member)),
+      record { number = l .number; host = l .host; type = l .type },
+    );
+  }

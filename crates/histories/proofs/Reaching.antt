@@ -3,11 +3,14 @@ use mathlib.Core.Path.{_≡_, refl, sym, _∙_, ap}
 use mathlib.Core.Bool.{Bool, true, false}
 use mathlib.Core.List.{List, [], _∷_, map}
 use mathlib.Core.Logic.{_⊎_, inl, inr}
-use Prim.Native.Nat.{ℕ, zero, suc, _≤_}
+use Prim.Native.Nat.{ℕ, zero, suc, _+_, _≤_}
 use native.Mathlib.Nat.{le-refl}
+use native.Mathlib.Omega.{arith}
+use borrow.Author.Tests.{ne-eqb}
 use lib.ListN.{length, getD, replicate, length-replicate, List·getD-map}
-use Rattle.words.specs.Test.{if_then_else_}
+use Rattle.words.specs.Test.{if_then_else_, anyOf}
 use Rattle.words.specs.Said.{Said, done, refused, andThen, left}
+use Rattle.words.proofs.Tests.{differ, Each, none-any}
 use Rattle.words.proofs.Left.{left-whole, not-done}
 use Rattle.claims.specs.declared.claim.Claim.{Claim}
 use Rattle.table.specs.Table.{Table}
@@ -15,7 +18,7 @@ use Rattle.table.specs.Layout.{Fits, count, bytesOf}
 use Rattle.table.specs.Form.{isLength}
 use Rattle.table.specs.Reply.{replySays}
 use Rattle.table.specs.Fill.{filled, fillSays, Fills}
-use Rattle.table.specs.Call.{leftOf}
+use Rattle.table.specs.Call.{saysOf, leftOf}
 use Rattle.table.specs.declared.reply.Reply.{Reply}
 use Rattle.table.specs.declared.reply.Reply.the-variants.{Done}
 use Rattle.table.specs.declared.slot.Slot.{Slot}
@@ -23,7 +26,7 @@ use Rattle.table.specs.declared.slot.Slot.the-variants.{Free, Held}
 use Rattle.table.proofs.Cuts.{sized}
 use Rattle.table.proofs.Tables.{bytes-length}
 use Rattle.table.proofs.Ordering.{fresh-order}
-use Rattle.tokens.specs.Grant.{requestSays, serveSays, granted, grantSays as plainSays}
+use Rattle.tokens.specs.Grant.{lastNumber, roomSays, requestSays, serveSays, granted, grantSays as plainSays}
 use Rattle.tokens.proofs.Kept.{passed, grant-order}
 use Rattle.returns.specs.Return.{returnSays, returned}
 use Rattle.returns.specs.DropHost.{isHosts, freed, dropSays, dropped}
@@ -32,10 +35,12 @@ use Rattle.audit.proofs.Exactly.{from-free}
 use Rattle.access.specs.Access.{Access, accessSays}
 use Rattle.desk.specs.Order.{judgedSays}
 use Rattle.desk.specs.Grant.{grantSays}
-use Rattle.histories.specs.History.{Call, toFill, toAsk, toAskUnjudged, toGrant, toGrantUnjudged, toReturn, toDropHost, toAudit, Leaves, Runs, Reached}
+use Rattle.histories.specs.History.{Call, toFill, toAsk, toAskUnjudged, toGrant, toGrantUnjudged, toReturn, toDropHost, toAudit, isFill, Leaves, RunsBy, Runs, Reached, Gives, judged, unjudged}
 use Rattle.histories.specs.Callback.{slotAt}
+use Rattle.histories.specs.Demands.{NumbersOnce}
+use Rattle.histories.proofs.Answers.{same-value}
 use Rattle.histories.proofs.Soundness.{Sound, Shrunk, shrunk-apart, granted-apart}
-use Rattle.histories.proofs.Spelling.{next, left-there}
+use Rattle.histories.proofs.Spelling.{next, says-there, left-there}
 use Rattle.histories.proofs.Giving.{gave-sound}
 
 -- bytes that a sound table spells
@@ -77,20 +82,33 @@ filling bytes r after f = go (isLength (length bytes)) refl (f .answer) (f .tabl
         })
     go false q e z = inr (e, z)
 
--- a call that keeps tables sound keeps what stands
+-- bytes that stand, and whose next number is not below this one
+pub record Follows (number : ℕ) (bytes : List ℕ) : Type 0 where
+  pub stands : Stands bytes
+  pub rises : number ≤ stands .table .next
+
+-- a call that keeps tables sound, and does not lower next, keeps what stands
 module _ (says : Table → Said) (changed : Table → Table) (t : Table) (sound : Sound t)
-    (keeps : (values : List ℕ) → says t ≡ done values → Sound (changed t) × (length (changed t .slots) ≡ length (t .slots))) where
-  stays : {bytes after : List ℕ} → bytes ≡ bytesOf t → after ≡ leftOf says changed bytes → Stands after
+    (keeps : (values : List ℕ) → says t ≡ done values → Sound (changed t) × (length (changed t .slots) ≡ length (t .slots)))
+    (rises : t .next ≤ changed t .next) where
+  stays : {bytes after : List ℕ} → bytes ≡ bytesOf t → after ≡ leftOf says changed bytes → Follows (t .next) after
   unfolding next
   stays p e = record {
-    table = next (says t) (changed t) t;
-    spelled = e ∙ ap (leftOf says changed) p ∙ left-there says t (sound .order) changed (λ values z. keeps values z .1);
-    sound = go (says t) refl;
+    stands = record {
+      table = next (says t) (changed t) t;
+      spelled = e ∙ ap (leftOf says changed) p ∙ left-there says t (sound .order) changed (λ values z. keeps values z .1);
+      sound = go (says t) refl;
+    };
+    rises = up (says t);
   }
     where
       go : (said : Said) → says t ≡ said → Sound (next said (changed t) t)
       go (done values) z = keeps values z .0
       go (refused number values) z = sound
+
+      up : (said : Said) → t .next ≤ next said (changed t) t .next
+      up (done values) = rises
+      up (refused number values) = le-refl (t .next)
 
 module _ (claim : Claim) (fits : Fits claim) (t : Table) (sound : Sound t) where
   granting : (values : List ℕ) → plainSays claim t ≡ done values → Sound (granted claim t) × (length (granted claim t .slots) ≡ length (t .slots))
@@ -99,16 +117,16 @@ module _ (claim : Claim) (fits : Fits claim) (t : Table) (sound : Sound t) where
       (record { order = o .0; all = granted-apart t sound claim (passed claim t values e) }, o .1)
 
 -- a grant that is done is done with access apart
-unjudged : (first verdict own : Said) (values : List ℕ) → andThen first (andThen verdict own) ≡ done values → andThen first own ≡ done values
+without-verdict : (first verdict own : Said) (values : List ℕ) → andThen first (andThen verdict own) ≡ done values → andThen first own ≡ done values
 unfolding andThen
-unjudged (done v) (done w) own values e = e
-unjudged (done v) (refused number w) own values e = absurd (not-done number w values e)
-unjudged (refused number v) verdict own values e = absurd (not-done number v values e)
+without-verdict (done v) (done w) own values e = e
+without-verdict (done v) (refused number w) own values e = absurd (not-done number w values e)
+without-verdict (refused number v) verdict own values e = absurd (not-done number v values e)
 
 module _ (claim : Claim) (access : Access) (t : Table) where
   as-plain : (values : List ℕ) → grantSays claim access t ≡ done values → plainSays claim t ≡ done values
   unfolding grantSays judgedSays plainSays
-  as-plain values e = unjudged (requestSays claim t) (accessSays access (claim .types)) (serveSays claim t) values e
+  as-plain values e = without-verdict (requestSays claim t) (accessSays access (claim .types)) (serveSays claim t) values e
 
 itself : (slot : Slot) → Shrunk slot slot
 unfolding Shrunk
@@ -132,30 +150,70 @@ dropping host t sound =
     let o = drop-order t (sound .order) host in
     (record { order = o .0; all = shrunk-apart t (map (freed host) (t .slots)) (sound .all) (λ i. rw (List·getD-map (freed host) (t .slots) i Free) (freed-shrunk host (slotAt t i))) }, o .1)
 
-pub call-stands : (call : Call) (before after : List ℕ) → Leaves call before after → Stands before → Stands after
-unfolding Leaves
+granted-next : (claim : Claim) (t : Table) → granted claim t .next ≡ t .next + 1
+unfolding granted
+granted-next claim t = refl
+
+granted-rises : (claim : Claim) (t : Table) → t .next ≤ granted claim t .next
+granted-rises claim t = omega (arith, granted-next claim t)
+
+returned-rises : (host number types : ℕ) (t : Table) → t .next ≤ returned host number types t .next
+unfolding returned
+returned-rises host number types t = le-refl (t .next)
+
+dropped-rises : (host : ℕ) (t : Table) → t .next ≤ dropped host t .next
+unfolding dropped
+dropped-rises host t = le-refl (t .next)
+
+-- what is only read stays
+as-it-was : {before after : List ℕ} → after ≡ before → (s : Stands before) → Follows (s .table .next) after
+as-it-was e s = record { stands = record { table = s .table; spelled = e ∙ s .spelled; sound = s .sound }; rises = le-refl (s .table .next) }
+
+call-follows : (call : Call) (before after : List ℕ) → isFill call ≡ false → Leaves call before after → (s : Stands before) → Follows (s .table .next) after
+unfolding Leaves isFill
+call-follows toFill before after f l s = absurd (differ f)
+call-follows (toAsk claim access out) before after f l s = as-it-was (l .0) s
+call-follows (toAskUnjudged claim out) before after f l s = as-it-was (l .0) s
+call-follows (toGrant claim access) before after f l s =
+    stays (grantSays claim access) (granted claim) (s .table) (s .sound)
+    (λ values e. granting claim (l .0) (s .table) (s .sound) values (as-plain claim access (s .table) values e)) (granted-rises claim (s .table)) (s .spelled) (l .2 .table-after)
+call-follows (toGrantUnjudged claim) before after f l s =
+    stays (plainSays claim) (granted claim) (s .table) (s .sound) (granting claim (l .0) (s .table) (s .sound)) (granted-rises claim (s .table)) (s .spelled) (l .2 .table-after)
+call-follows (toReturn g) before after f l s =
+    stays (returnSays (g .host) (g .number) (g .types)) (returned (g .host) (g .number) (g .types)) (s .table) (s .sound)
+    (λ values e. (gave-sound g (s .table) (s .sound) values e, return-order (s .table) (s .sound .order) (g .host) (g .number) (g .types) .1))
+    (returned-rises (g .host) (g .number) (g .types) (s .table)) (s .spelled) (l .1 .table-after)
+call-follows (toDropHost host) before after f l s =
+    stays (dropSays host) (dropped host) (s .table) (s .sound) (λ values e. dropping host (s .table) (s .sound)) (dropped-rises host (s .table)) (s .spelled) (l .1 .table-after)
+call-follows toAudit before after f l s = as-it-was (l .0) s
+
+-- and so do calls with no fill among them
+runs-follow : (calls : List Call) (before after : List ℕ) → Each (λ call. isFill call ≡ false) calls → Runs calls before after → (s : Stands before) → Follows (s .table .next) after
+unfolding RunsBy Each
+runs-follow [] before after f r s = as-it-was r s
+runs-follow (call ∷ calls) before after f r s =
+    let w = call-follows call before (r .0) (f .0) (r .1) s in
+    let v = runs-follow calls (r .0) after (f .1) (r .2) (w .stands) in
+    record { stands = v .stands; rises = omega (arith, w .rises, v .rises) }
+
+call-stands : (call : Call) (before after : List ℕ) → Leaves call before after → Stands before → Stands after
+unfolding Leaves isFill
 call-stands toFill before after l s = go (filling before (l .0) after (l .1))
   where
     go : Stands after ⊎ ((replySays (l .0) ≡ refused 30 []) × (after ≡ before)) → Stands after
     go (inl p) = p
-    go (inr p) = rw (p .1) s
-call-stands (toAsk claim access out) before after l s = rw l s
-call-stands (toAskUnjudged claim out) before after l s = rw l s
-call-stands (toGrant claim access) before after l s =
-    stays (grantSays claim access) (granted claim) (s .table) (s .sound)
-    (λ values e. granting claim (l .0) (s .table) (s .sound) values (as-plain claim access (s .table) values e)) (s .spelled) (l .2 .table-after)
-call-stands (toGrantUnjudged claim) before after l s =
-    stays (plainSays claim) (granted claim) (s .table) (s .sound) (granting claim (l .0) (s .table) (s .sound)) (s .spelled) (l .2 .table-after)
-call-stands (toReturn g) before after l s =
-    stays (returnSays (g .host) (g .number) (g .types)) (returned (g .host) (g .number) (g .types)) (s .table) (s .sound)
-    (λ values e. (gave-sound g (s .table) (s .sound) values e, return-order (s .table) (s .sound .order) (g .host) (g .number) (g .types) .1)) (s .spelled) (l .1 .table-after)
-call-stands (toDropHost host) before after l s =
-    stays (dropSays host) (dropped host) (s .table) (s .sound) (λ values e. dropping host (s .table) (s .sound)) (s .spelled) (l .1 .table-after)
-call-stands toAudit before after l s = rw l s
+    go (inr p) = as-it-was (p .1) s .stands
+call-stands (toAsk claim access out) before after l s = call-follows (toAsk claim access out) before after refl l s .stands
+call-stands (toAskUnjudged claim out) before after l s = call-follows (toAskUnjudged claim out) before after refl l s .stands
+call-stands (toGrant claim access) before after l s = call-follows (toGrant claim access) before after refl l s .stands
+call-stands (toGrantUnjudged claim) before after l s = call-follows (toGrantUnjudged claim) before after refl l s .stands
+call-stands (toReturn g) before after l s = call-follows (toReturn g) before after refl l s .stands
+call-stands (toDropHost host) before after l s = call-follows (toDropHost host) before after refl l s .stands
+call-stands toAudit before after l s = call-follows toAudit before after refl l s .stands
 
 runs-stand : (calls : List Call) (before after : List ℕ) → Runs calls before after → Stands before → Stands after
-unfolding Runs
-runs-stand [] before after r s = rw r s
+unfolding RunsBy
+runs-stand [] before after r s = as-it-was r s .stands
 runs-stand (call ∷ calls) before after r s = runs-stand calls (r .0) after (r .2) (call-stands call before (r .0) (r .1) s)
 
 pub reached-stands : (bytes : List ℕ) → Reached bytes → Stands bytes
@@ -165,3 +223,38 @@ reached-stands bytes r = runs-stand (r .calls) (r .fresh) bytes (r .runs) (go (f
     go : Stands (r .fresh) ⊎ ((replySays Done ≡ refused 30 []) × (r .fresh ≡ r .lent)) → Stands (r .fresh)
     go (inl p) = p
     go (inr p) = absurd (not-done 30 [] [] (sym (p .0)))
+
+-- a grant that is done gives the next number, and raises it
+module _ (claim : Claim) (fits : Fits claim) (t : Table) (sound : Sound t) (number : ℕ) where
+  its-number : plainSays claim t ≡ done (number ∷ []) → number ≡ t .next
+  unfolding plainSays requestSays serveSays roomSays andThen
+  its-number e =
+      let p = passed claim t (number ∷ []) e in
+      let says : plainSays claim t ≡ done (t .next ∷ []) = rw (p .shaped, p .harmless, p .room, ne-eqb (t .next) lastNumber (p .numbers-left)) refl in
+      same-value number (t .next) (sym e ∙ says)
+
+  given-follows : (says : Table → Said) → (says t ≡ done (number ∷ []) → plainSays claim t ≡ done (number ∷ []))
+      → (bytes after : List ℕ) → bytes ≡ bytesOf t → done (number ∷ []) ≡ saysOf says bytes → after ≡ leftOf says (granted claim) bytes
+      → (number ≡ t .next) × Follows (number + 1) after
+  unfolding next
+  given-follows says plain bytes after p e q =
+      let spoken : says t ≡ done (number ∷ []) = sym (e ∙ ap (saysOf says) p ∙ says-there says t (sound .order)) in
+      let n = its-number (plain spoken) in
+      let o = granting claim fits t sound (number ∷ []) (plain spoken) in
+      let spelled : after ≡ bytesOf (granted claim t) = q ∙ ap (leftOf says (granted claim)) p ∙ left-there says t (sound .order) (granted claim) (λ values z. o .1) ∙ rw spoken refl in
+      (n, record { stands = record { table = granted claim t; spelled = spelled; sound = o .0 }; rises = omega (arith, granted-next claim t) })
+
+gives-follows : (bytes : List ℕ) (s : Stands bytes) (number : ℕ) (after : List ℕ) → Gives bytes number after → (number ≡ s .table .next) × Follows (number + 1) after
+unfolding replySays
+gives-follows bytes s number after (judged claim access fits g) =
+    given-follows claim fits (s .table) (s .sound) number (grantSays claim access) (as-plain claim access (s .table) (number ∷ [])) bytes after (s .spelled) (g .answer) (g .table-after)
+gives-follows bytes s number after (unjudged claim fits g) =
+    given-follows claim fits (s .table) (s .sound) number (plainSays claim) (λ e. e) bytes after (s .spelled) (g .answer) (g .table-after)
+
+pub numbers-once : NumbersOnce
+numbers-once bytes r number after g calls f later runs other last h =
+    let s = reached-stands bytes r in
+    let first = gives-follows bytes s number after g .1 in
+    let w = runs-follow calls after later (none-any isFill calls f) runs (first .stands) in
+    let n = gives-follows later (w .stands) other last h .0 in
+    omega (arith, first .rises, w .rises)

@@ -3,7 +3,7 @@ use mathlib.Core.Path.{_≡_, refl, sym, _∙_, ap}
 use mathlib.Core.Bool.{Bool, true, false, not}
 use mathlib.Core.List.{List, [], _∷_, List·Memᴰ}
 use mathlib.Core.Logic.{_≢_, _↔_}
-use Prim.Native.Nat.{ℕ}
+use Prim.Native.Nat.{ℕ, _<_}
 use native.Mathlib.Omega.{arith}
 use borrow.Author.Tests.{eqb-false, ne-eqb, not-true}
 use lib.Dec.{eqb}
@@ -12,6 +12,7 @@ use Rattle.words.specs.Said.{done, refused}
 use Rattle.words.specs.Bit.{bit}
 use Rattle.words.proofs.Tests.{differ, fails}
 use Rattle.words.proofs.Left.{not-done}
+use Rattle.claims.specs.Types.{kinds}
 use Rattle.claims.specs.Rule.{conflict}
 use Rattle.claims.specs.Claim.{withTypes}
 use Rattle.claims.specs.declared.claim.Claim.{Claim}
@@ -81,6 +82,16 @@ module _ (claim : Claim) (t : Table) where
   unfolding isInTheWay
   busy-at i number held p b = rw (p, ne-eqb (conflict held claim) 0 b) refl
 
+  -- what is listed is held
+  pub listed-holds : (x : Item) → Listed (entries claim (t .slots)) x → (x .type < kinds) × Holds t x
+  unfolding entryOf
+  listed-holds x l =
+      let s = source claim (t .slots) (l .entry) (l .member) in
+      let n : s .number ≡ x .number = sym (ap (λ (e : Entry). e .number) (s .is)) ∙ l .number in
+      let e : bit (x .type) (conflict (s .held) claim) ≡ true = rw (s .is) at (l .type) in
+      let p = conflict-own (s .held) claim (x .type) e in
+      (p .1, record { place = s .place; claim = s .held; at = rw n at (s .at); host = sym (ap (λ (e : Entry). e .host) (s .is)) ∙ l .host; type = p .0 })
+
 module _ (claim : Claim) (t₀ t : Table) (kept : KeptTable t t₀) where
   -- in the way after the returns: it was listed, and is still held
   listed-held : InTheWay claim t → (x : Item) × Listed (entries claim (t₀ .slots)) x × Holds t x
@@ -131,12 +142,6 @@ module _ (claim : Claim) (t : Table) (sound : Sound t) (turns : List Turn) where
 
     -- what is listed is held, so if the request is served it was given back
     pub least : serveSays claim (giveAll turns t) ≡ roomSays (giveAll turns t) → (x : Item) → Listed (entries claim (t .slots)) x → GivenBack turns x
-    unfolding entryOf
     least served x l =
-        let s = source claim (t .slots) (l .entry) (l .member) in
-        let n : s .number ≡ x .number = sym (ap (λ (e : Entry). e .number) (s .is)) ∙ l .number in
-        let e : bit (x .type) (conflict (s .held) claim) ≡ true = rw (s .is) at (l .type) in
-        let p = conflict-own (s .held) claim (x .type) e in
-        lost-given turns t answers x (p .1)
-        (record { place = s .place; claim = s .held; at = rw n at (s .at); host = sym (ap (λ (e : Entry). e .host) (s .is)) ∙ l .host; type = p .0 })
-        (λ y. room-not-conflict (giveAll turns t) (sym served ∙ exactly .1 (x, l, y)))
+        let h = listed-holds claim t x l in
+        lost-given turns t answers x (h .0) (h .1) (λ y. room-not-conflict (giveAll turns t) (sym served ∙ exactly .1 (x, l, y)))

@@ -150,7 +150,7 @@ given-gone turns t sound answers x g y = go turns t sound answers (g .member) y
     go : (turns : List Turn) (t : Table) → Sound t → Answered turns t → List·Memᴰ (g .turn) turns → Holds (giveAll turns t) x → ⊥
     go [] t sound answers m y = List·Memᴰ·not-nil m
     go (turn ∷ turns) t sound answers (List·Memᴰ·head p) y =
-        give-gone t (turn .given) x [] (sym (answers .0) ∙ rw (← p, g .done) refl) sound (rw (← p) (g .number)) (rw (← p) (g .type))
+        give-gone t (turn .given) x [] (sym (answers .0) ∙ rw (← p, g .done) refl) sound (rw (← p) (g .names .number)) (rw (← p) (g .names .type))
         (comes-back (giveAll turns (give (turn .given) t)) (give (turn .given) t) (all-kept turns (give (turn .given) t)) x y)
     go (turn ∷ turns) t sound answers (List·Memᴰ·tail m) y = go turns (give (turn .given) t) (give-sound (turn .given) t sound) (answers .1) m y
 
@@ -173,7 +173,7 @@ still types number type a small p q = go (eqb (without (a .types) types) 0) refl
     go false z = record { claim = withTypes a (without (a .types) types); at = refl; host-same = refl; has = kept }
 
 -- a return that does not name it leaves it held
-give-holds : (t : Table) (given : Return) (x : Item) → x .type < kinds → Holds t x → (values : List ℕ) → says given t ≡ done values
+pub give-holds : (t : Table) (given : Return) (x : Item) → x .type < kinds → Holds t x → (values : List ℕ) → says given t ≡ done values
     → (given .number ≡ x .number → given .host ≡ x .host → bit (x .type) (given .types) ≡ false) → Holds (give given t) x
 unfolding returned tokenIn
 give-holds t given x small y values e f = subst (λ (u : Table). Holds u x) (sym (give-done given t values e)) (go (ℕ-discrete (y .place) k))
@@ -206,7 +206,7 @@ give-holds t given x small y values e f = subst (λ (u : Table). Holds u x) (sym
         }
 
 later : (turn : Turn) (turns : List Turn) (x : Item) → GivenBack turns x → GivenBack (turn ∷ turns) x
-later turn turns x g = record { turn = g .turn; member = List·Memᴰ·tail (g .member); done = g .done; number = g .number; host = g .host; type = g .type }
+later turn turns x g = record { turn = g .turn; member = List·Memᴰ·tail (g .member); done = g .done; names = g .names }
 
 -- what was held and is held no more, a done return named
 pub lost-given : (turns : List Turn) (t : Table) → Answered turns t → (x : Item) → x .type < kinds → Holds t x → ¬ Holds (giveAll turns t) x → GivenBack turns x
@@ -229,7 +229,5 @@ lost-given (turn ∷ turns) t answers x small y f =
       turn = turn;
       member = List·Memᴰ·head refl;
       done = same-reply (turn .reply) Done (answers .0 ∙ no-value g t values e) refl;
-      number = n;
-      host = h;
-      type = p;
+      names = record { number = n; host = h; type = p };
     }

@@ -2,6 +2,7 @@
 use mathlib.Core.Path.{_≡_}
 use mathlib.Core.Bool.{true}
 use mathlib.Core.List.{List, [], _∷_, _++_, List·Memᴰ}
+use mathlib.Core.Logic.{_≢_}
 use Prim.Native.Nat.{ℕ, zero, suc}
 use lib.ListN.{getD, take, drop}
 use Rattle.words.specs.Bit.{bit}
@@ -68,14 +69,18 @@ Returned (turn ∷ turns) before after =
     × Returns before (turn .given .host) (turn .given .number) (turn .given .types) (turn .reply) between
     × Returned turns between after
 
+-- a return names the type of the token
+pub record Names (given : Return) (x : Item) : Type 0 where
+  pub number : given .number ≡ x .number
+  pub host : given .host ≡ x .host
+  pub type : bit (x .type) (given .types) ≡ true
+
 -- one of the returns named it, and was done
 pub record GivenBack (turns : List Turn) (x : Item) : Type 0 where
   pub turn : Turn
   pub member : List·Memᴰ turn turns
   pub done : turn .reply ≡ Done
-  pub number : turn .given .number ≡ x .number
-  pub host : turn .given .host ≡ x .host
-  pub type : bit (x .type) (turn .given .types) ≡ true
+  pub names : Names (turn .given) x
 
 -- the return of all that an entry names
 abbrev pub returnOf : Entry → Return
@@ -85,3 +90,16 @@ returnOf e = record { host = e .host; number = e .number; types = e .types }
 unfoldable pub Reordered : List Entry → List Entry → Type 0
 Reordered [] list = list ≡ []
 Reordered (e ∷ es) list = (front : List Entry) × (back : List Entry) × (list ≡ front ++ e ∷ back) × Reordered es (front ++ back)
+
+-- no two of the returns name one type of one token
+unfoldable pub NoneTwice : List Return → Type 0
+NoneTwice [] = Unit {0}
+NoneTwice (g ∷ gs) = ((h : Return) → List·Memᴰ h gs → (x : Item) → Names g x → Names h x → ⊥) × NoneTwice gs
+
+-- the returns of what a list names, split in any way: each names some listed types of a listed token, and each listed type is named once; so
+-- whole entries, single types or what is between, in any order and mixed
+pub record Split (list : List Entry) (gs : List Return) : Type 0 where
+  pub some : (g : Return) → List·Memᴰ g gs → g .types ≢ 0
+  pub listed : (g : Return) → List·Memᴰ g gs → (x : Item) → Names g x → Listed list x
+  pub none-twice : NoneTwice gs
+  pub all : (x : Item) → Listed list x → (g : Return) × List·Memᴰ g gs × Names g x

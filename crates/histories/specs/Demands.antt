@@ -1,13 +1,27 @@
--- The customer's demands, of every table that calls reach.
+-- The customer's demands: of every call, and of every table that calls reach.
 use mathlib.Core.Path.{_≡_}
-use mathlib.Core.Bool.{Bool, true, false, _||_, _&&_}
-use mathlib.Core.List.{List, [], _∷_, map, List·Memᴰ}
+use mathlib.Core.Bool.{Bool, true, false}
+use mathlib.Core.List.{List, [], map, List·Memᴰ}
 use mathlib.Core.Logic.{_≢_, _↔_}
 use Prim.Native.Nat.{ℕ, _*_, _≤_, _<_}
-use lib.Dec.{eqb, leb}
+use denote.Ref.{RefT, now}
 use lib.ListN.{length}
 use Rattle.words.specs.Test.{anyOf}
 use Rattle.words.specs.Said.{Said, done, refused, isDone}
+use Rattle.evaluate.specs.Evaluation.{evaluatedAs, verdictSays, Checks, Evaluates}
+use Rattle.evaluate.specs.declared.asking.Caller.{Caller}
+use Rattle.evaluate.specs.declared.asking.File.{File}
+use Rattle.evaluate.specs.declared.evaluation.Evaluated.{Evaluated}
+use Rattle.evaluate.specs.declared.verdict.Verdict.{Verdict}
+use Rattle.rights.specs.Deciding.{decided, answerSays, Finds, Decides}
+use Rattle.rights.specs.declared.answer.Found.{Found}
+use Rattle.rights.specs.declared.decision.Decision.{Decision}
+use Rattle.rights.specs.declared.guard.Guard.{Guard}
+use Rattle.entry.specs.Plan.{planSays, PlansPut, PlansDrop}
+use Rattle.entry.specs.declared.entries.Entry.{Entry as TheEntry}
+use Rattle.entry.specs.declared.planning.Plan.{Plan}
+use Rattle.edit.specs.Editing.{editedSays, Puts, Drops as DropsEntry}
+use Rattle.edit.specs.declared.editing.Edited.{Edited}
 use Rattle.claims.specs.Claim.{malformed}
 use Rattle.claims.specs.Rule.{Conflicting}
 use Rattle.claims.specs.declared.claim.Claim.{Claim}
@@ -19,41 +33,46 @@ use Rattle.table.specs.Fill.{Fills}
 use Rattle.table.specs.declared.reply.Reply.{Reply}
 use Rattle.table.specs.declared.reply.Reply.the-variants.{Done, Value}
 use Rattle.table.specs.declared.slot.Slot.the-variants.{Held}
-use Rattle.tokens.specs.Grant.{roomSays}
+use Rattle.tokens.specs.Grant.{roomSays, Grants as GrantsUnjudged}
+use Rattle.tokens.specs.Ask.{Asks as AsksUnjudged}
 use Rattle.returns.specs.Return.{Returns}
 use Rattle.returns.specs.DropHost.{Drops}
 use Rattle.audit.specs.Audit.{Audits}
-use Rattle.access.specs.Access.{Access, accessSays}
+use Rattle.access.specs.Access.{Access, accessSays, Judges}
 use Rattle.desk.specs.Grant.{Grants}
 use Rattle.desk.specs.Ask.{Asks}
-use Rattle.histories.specs.History.{Reached}
-use Rattle.histories.specs.Callback.{slotAt, Item, Holds, Entry, entriesIn, Listed, Turn, Returned, GivenBack, returnOf, Reordered}
+use Rattle.exchange.specs.Answer.{truthSays}
+use Rattle.histories.specs.Shape.{Shape, isAnswer, ofCheck, ofEvaluate, ofRights, ofJudge, ofPlanPut, ofPlanDrop, ofPut, ofDrop, ofFill, ofAsk, ofAskUnjudged, ofGrant, ofGrantUnjudged, ofReturn, ofDropHost, ofAudit}
+use Rattle.histories.specs.History.{Call, isFill, Runs, Reached, Gives}
+use Rattle.histories.specs.Callback.{slotAt, Item, Holds, Entry, entriesIn, Listed, Turn, Returned, GivenBack, returnOf, Reordered, Split}
 
--- 01's table of refusals for calls on a table: without a value; with one, the place for 10 to 19 or the true count for 35
-unfoldable pub isRefusal : ℕ → List ℕ → Bool
-isRefusal number [] = anyOf (eqb number) (30 ∷ 31 ∷ 23 ∷ 22 ∷ 24 ∷ 32 ∷ 33 ∷ 34 ∷ 36 ∷ 37 ∷ [])
-isRefusal number (value ∷ []) = (leb 10 number && leb number 19) || eqb number 35
-isRefusal number (value ∷ other ∷ more) = false
+-- "every call ends with an answer or a numbered refusal of 01's table, and a refusal leaves every lent byte as it was": of a call that is lent
+-- a buffer to change
+pub record Ends (s : Shape) (said : Said) (before after : List ℕ) : Type 0 where
+  pub answers : isAnswer s said ≡ true
+  pub unchanged : isDone said ≡ false → after ≡ before
 
-unfoldable pub isAnswerOrRefusal : Said → Bool
-isAnswerOrRefusal (done values) = true
-isAnswerOrRefusal (refused number values) = isRefusal number values
-
--- "every call ends with an answer or a numbered refusal of 01's table"
-pub record AnswerOrRefusal (r : Reply) : Type 0 where
-  pub fill : (bytes after : List ℕ) → Fills bytes r after → isAnswerOrRefusal (replySays r) ≡ true
-  pub ask : (bytes out after : List ℕ) (claim : Claim) (access : Access) → Asks bytes claim access out r after → isAnswerOrRefusal (replySays r) ≡ true
-  pub grant : (bytes after : List ℕ) (claim : Claim) (access : Access) → Grants bytes claim access r after → isAnswerOrRefusal (replySays r) ≡ true
-  pub give-back : (bytes after : List ℕ) (host number types : ℕ) → Returns bytes host number types r after → isAnswerOrRefusal (replySays r) ≡ true
-  pub drop-host : (bytes after : List ℕ) (host : ℕ) → Drops bytes host r after → isAnswerOrRefusal (replySays r) ≡ true
-
--- "a refusal leaves every lent byte as it was", of each call that is lent bytes to change
-pub record RefusalsChangeNothing (r : Reply) : Type 0 where
-  pub fill : (bytes after : List ℕ) → Fills bytes r after → after ≡ bytes
-  pub ask : (bytes out after : List ℕ) (claim : Claim) (access : Access) → Asks bytes claim access out r after → after ≡ out
-  pub grant : (bytes after : List ℕ) (claim : Claim) (access : Access) → Grants bytes claim access r after → after ≡ bytes
-  pub give-back : (bytes after : List ℕ) (host number types : ℕ) → Returns bytes host number types r after → after ≡ bytes
-  pub drop-host : (bytes after : List ℕ) (host : ℕ) → Drops bytes host r after → after ≡ bytes
+-- demand 1, of every call by its own statement; those that are lent bytes only to read can change none
+pub record Demand1 : Type 0 where
+  pub check : (list : List ℕ) (r : Verdict) → Checks list r → isAnswer ofCheck (verdictSays r) ≡ true
+  pub evaluate : (list groups : List ℕ) (caller : Caller) (file : File) (r : Evaluated) → Evaluates list groups caller file r → isAnswer ofEvaluate (evaluatedAs r .says) ≡ true
+  pub decide : (list groups : List ℕ) (caller : Caller) (file : File) (guard : Guard) (r : Found) → Finds (decided list groups caller file guard) r
+      → isAnswer ofRights (answerSays (r .answer)) ≡ true
+  pub rights : (list : RefT (List ℕ)) (groups : List ℕ) (caller : Caller) (file : File) (guard : Guard) (r : Decision) → Decides (decided (now list) groups caller file guard) list r
+      → isAnswer ofRights (answerSays (r .answer)) ≡ true
+  pub judge : (access : Access) (types : ℕ) (r : Reply) → Judges access types r → isAnswer ofJudge (replySays r) ≡ true
+  pub plan-put : (list : List ℕ) (entry : TheEntry) (r : Plan) → PlansPut list entry r → isAnswer ofPlanPut (planSays r) ≡ true
+  pub plan-drop : (list : List ℕ) (entry : TheEntry) (r : Plan) → PlansDrop list entry r → isAnswer ofPlanDrop (planSays r) ≡ true
+  pub audit : (bytes : List ℕ) (r : Bool) → Audits bytes r → isAnswer ofAudit (truthSays r) ≡ true
+  pub put : (list out after : List ℕ) (entry : TheEntry) (r : Edited) → Puts list entry out r after → Ends ofPut (editedSays r) out after
+  pub drop-entry : (list out after : List ℕ) (entry : TheEntry) (r : Edited) → DropsEntry list entry out r after → Ends ofDrop (editedSays r) out after
+  pub fill : (bytes after : List ℕ) (r : Reply) → Fills bytes r after → Ends ofFill (replySays r) bytes after
+  pub ask : (bytes out after : List ℕ) (claim : Claim) (access : Access) (r : Reply) → Asks bytes claim access out r after → Ends ofAsk (replySays r) out after
+  pub ask-unjudged : (bytes out after : List ℕ) (claim : Claim) (r : Reply) → AsksUnjudged bytes claim out r after → Ends ofAskUnjudged (replySays r) out after
+  pub grant : (bytes after : List ℕ) (claim : Claim) (access : Access) (r : Reply) → Grants bytes claim access r after → Ends ofGrant (replySays r) bytes after
+  pub grant-unjudged : (bytes after : List ℕ) (claim : Claim) (r : Reply) → GrantsUnjudged bytes claim r after → Ends ofGrantUnjudged (replySays r) bytes after
+  pub give-back : (bytes after : List ℕ) (host number types : ℕ) (r : Reply) → Returns bytes host number types r after → Ends ofReturn (replySays r) bytes after
+  pub drop-host : (bytes after : List ℕ) (host : ℕ) (r : Reply) → Drops bytes host r after → Ends ofDropHost (replySays r) bytes after
 
 -- "from a freshly filled table, after any calls, no two hosts hold conflicting tokens"
 pub record NoTwoConflict (bytes : List ℕ) : Type 0 where
@@ -97,10 +116,8 @@ pub record LeastThatServes (list : List Entry) (turns : List Turn) (now : List �
   -- where the returns are one for each entry, in any order: none of them is refused, and the request is served
   pub in-any-order : (es : List Entry) → Reordered es list → map (λ (turn : Turn). turn .given) turns ≡ map returnOf es
       → ((turn : Turn) → List·Memᴰ turn turns → turn .reply ≡ Done) × Served now said
-
--- demand 1, of every reply and of every reply that is not done
-abbrev pub Demand1 : Type 0
-Demand1 = (r : Reply) → AnswerOrRefusal r × (isDone (replySays r) ≡ false → RefusalsChangeNothing r)
+  -- and so where they are split type by type, or in any other way, in any order and mixed
+  pub split : Split list (map (λ (turn : Turn). turn .given) turns) → ((turn : Turn) → List·Memᴰ turn turns → turn .reply ≡ Done) × Served now said
 
 -- demand 2, of every table that calls reach
 abbrev pub Demand2 : Type 0
@@ -113,8 +130,15 @@ Demand3 = (bytes : List ℕ) → Reached bytes
     → (turns : List Turn) (now : List ℕ) (said : Said) → Again bytes claim turns now said
     → LeastThatServes (entriesIn count after) turns now said
 
--- and an ask of a well-formed request that is permitted is done if its buffer has room for all of a table's tokens
+-- and an ask of a well-formed request that is permitted is done if its buffer has thirteen bytes for each of the table's slots
 abbrev pub AskIsDone : Type 0
 AskIsDone = (bytes : List ℕ) → Reached bytes → (claim : Claim) → malformed claim (limit (tableOf bytes)) ≡ false
-    → (access : Access) → accessSays access (claim .types) ≡ done [] → (out : List ℕ) → 13 * 1024 ≤ length out
+    → (access : Access) → accessSays access (claim .types) ≡ done [] → (out : List ℕ) → 13 * length (tableOf bytes .slots) ≤ length out
     → (r : Reply) (after : List ℕ) → Asks bytes claim access out r after → (count : ℕ) × (r ≡ Value count)
+
+-- numbers are given once: of two grants in a history with no fill between them, whatever was returned or dropped between, the later number is
+-- the greater
+abbrev pub NumbersOnce : Type 0
+NumbersOnce = (bytes : List ℕ) → Reached bytes → (number : ℕ) (after : List ℕ) → Gives bytes number after
+    → (calls : List Call) → anyOf isFill calls ≡ false → (later : List ℕ) → Runs calls after later
+    → (other : ℕ) (last : List ℕ) → Gives later other last → number < other

@@ -1,3 +1,4 @@
+pub mod Shape
 pub mod History
 pub mod Callback
 pub mod Demands
