@@ -65,7 +65,7 @@ table-ends : {spoken : Said} (s : Shape) (says : Table → Said) (changed : Tabl
 unfolding leftOf
 table-ends s says changed bytes after p a e = ends s (saysOf says bytes) (bytesOf (changed (tableOf bytes))) bytes after p a e
 
-audit-answers : (truth : Bool) → isAnswer ofAudit (truthSays truth) ≡ true
+pub audit-answers : (truth : Bool) → isAnswer ofAudit (truthSays truth) ≡ true
 unfolding isAnswer truthSays ofAudit shape
 audit-answers truth = refl
 

@@ -11,3 +11,4 @@ pub mod Reorders
 pub mod Planning
 pub mod Reaching
 pub mod Demands
+pub mod Exports

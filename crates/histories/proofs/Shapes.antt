@@ -59,6 +59,18 @@ unfolding refuses
 answers-refuse s (done values) p = refl
 answers-refuse s (refused number values) p = p
 
+-- what each of some numbers passes, a number among them passes
+pub at-member : (test : ℕ → Bool) (xs : List ℕ) → allOf test xs ≡ true → (number : ℕ) → anyOf (eqb number) xs ≡ true → test number ≡ true
+unfolding anyOf allOf
+at-member test [] all number e = absurd (differ (sym e))
+at-member test (x ∷ xs) all number e = go (eqb number x) (test x) refl refl all e (λ a. at-member test xs a number)
+  where
+    go : (b c : Bool) → eqb number x ≡ b → test x ≡ c → cond c (allOf test xs) false ≡ true → cond b true (anyOf (eqb number) xs) ≡ true
+        → (allOf test xs ≡ true → anyOf (eqb number) xs ≡ true → test number ≡ true) → test number ≡ true
+    go b false p q a f rest = absurd (differ (sym a))
+    go true true p q a f rest = rw (eqb-true number x p) q
+    go false true p q a f rest = rest a f
+
 -- the refusals of one shape are among those of another
 abbrev allIn : List ℕ → List ℕ → Bool
 allIn xs ys = allOf (λ n. anyOf (eqb n) ys) xs
@@ -66,22 +78,11 @@ allIn xs ys = allOf (λ n. anyOf (eqb n) ys) xs
 unfoldable within : Shape → Shape → Bool
 within a b = allIn (a .plain) (b .plain) && allIn (a .valued) (b .valued)
 
-among : (xs ys : List ℕ) → allIn xs ys ≡ true → (number : ℕ) → anyOf (eqb number) xs ≡ true → anyOf (eqb number) ys ≡ true
-unfolding anyOf allOf
-among [] ys all number e = absurd (differ (sym e))
-among (x ∷ xs) ys all number e = go (eqb number x) (anyOf (eqb x) ys) refl refl all e (λ a. among xs ys a number)
-  where
-    go : (b c : Bool) → eqb number x ≡ b → anyOf (eqb x) ys ≡ c → cond c (allIn xs ys) false ≡ true → cond b true (anyOf (eqb number) xs) ≡ true
-        → (allIn xs ys ≡ true → anyOf (eqb number) xs ≡ true → anyOf (eqb number) ys ≡ true) → anyOf (eqb number) ys ≡ true
-    go b false p q a f rest = absurd (differ (sym a))
-    go true true p q a f rest = rw (eqb-true number x p) q
-    go false true p q a f rest = rest a f
-
 wider : (a b : Shape) → within a b ≡ true → (said : Said) → isAnswer a said ≡ true → refuses b said ≡ true
 unfolding within refuses isAnswer
 wider a b w (done values) p = refl
-wider a b w (refused number []) p = among (a .plain) (b .plain) (and-left (allIn (a .plain) (b .plain)) (allIn (a .valued) (b .valued)) w) number p
-wider a b w (refused number (value ∷ [])) p = among (a .valued) (b .valued) (and-right (allIn (a .plain) (b .plain)) (allIn (a .valued) (b .valued)) w) number p
+wider a b w (refused number []) p = at-member (λ n. anyOf (eqb n) (b .plain)) (a .plain) (and-left (allIn (a .plain) (b .plain)) (allIn (a .valued) (b .valued)) w) number p
+wider a b w (refused number (value ∷ [])) p = at-member (λ n. anyOf (eqb n) (b .valued)) (a .valued) (and-right (allIn (a .plain) (b .plain)) (allIn (a .valued) (b .valued)) w) number p
 wider a b w (refused number (value ∷ other ∷ more)) p = absurd (differ (sym p))
 
 wider-answer : (a b : Shape) → within a b ≡ true → a .values ≡ b .values → (said : Said) → isAnswer a said ≡ true → isAnswer b said ≡ true

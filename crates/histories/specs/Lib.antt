@@ -2,3 +2,4 @@ pub mod Shape
 pub mod History
 pub mod Callback
 pub mod Demands
+pub mod Exports

@@ -1,0 +1,242 @@
+-- A history of exports is a history of the calls that they make; so the demands hold of them. Assumes nothing.
+use mathlib.Core.Path.{_≡_, refl, sym, _∙_, ap}
+use mathlib.Core.Bool.{Bool, true, false, not, _&&_}
+use mathlib.Core.List.{List, [], _∷_, map}
+use mathlib.Core.Logic.{_≢_}
+use Prim.Native.Nat.{ℕ, _≤_}
+use native.Mathlib.Omega.{arith}
+use borrow.Author.Tests.{eqb-true, eq-eqb, leb-true, not-true}
+use lib.Dec.{eqb, leb}
+use lib.ListN.{length}
+use Rattle.words.specs.Test.{if_then_else_, anyOf, allOf}
+use Rattle.words.specs.Said.{Said, done, refused, isDone, left}
+use Rattle.words.proofs.Tests.{differ, and-left, and-right}
+use Rattle.words.proofs.Left.{left-kept}
+use Rattle.words.proofs.Written.{number-fits}
+use Rattle.list.specs.Checking.{checkSays}
+use Rattle.entry.specs.NewList.{putting, dropping}
+use Rattle.edit.specs.Editing.{putSays, dropSays as dropEntrySays}
+use Rattle.table.specs.Table.{Table}
+use Rattle.table.specs.Layout.{Fits, count, tableOf, bytesOf}
+use Rattle.table.specs.Reply.{replySays}
+use Rattle.table.specs.Fill.{filled, fillSays, Fills as FillsTable}
+use Rattle.table.specs.Call.{saysOf, leftOf}
+use Rattle.table.specs.declared.reply.Reply.{Reply}
+use Rattle.table.specs.declared.reply.Reply.the-variants.{Done, Value}
+use Rattle.tokens.specs.Grant.{granted}
+use Rattle.tokens.specs.Ask.{listFor}
+use Rattle.returns.specs.Return.{returnSays, returned, Returns as ReturnsTypes}
+use Rattle.returns.specs.DropHost.{dropSays, dropped, Drops as DropsTable}
+use Rattle.audit.specs.Audit.{sound}
+use Rattle.access.specs.Access.{Access}
+use Rattle.desk.specs.Grant.{grantSays, Grants as GrantsToken}
+use Rattle.desk.specs.Ask.{askSays, Asks as AsksTable}
+use Rattle.exchange.specs.Answer.{answerFor, answerOf, truthSays}
+use Rattle.exchange.specs.Given.{claimOf, entryOf, callerOf, fileOf, guardOf}
+use Rattle.exchange.specs.declared.answer.Answer.{Answer}
+use Rattle.exchange.specs.declared.given.Claim.{Claim}
+use Rattle.mastarik.specs.Lists.{decidedFor}
+use Rattle.mastarik.specs.Tables.{Fills, Asks, Grants, Returns, DropsHost}
+use Rattle.histories.specs.Shape.{Shape, shape, isAnswer, faults, ofCheck, ofRights, ofPut, ofDrop, ofFill, ofAsk, ofGrant, ofReturn, ofDropHost, ofAudit}
+use Rattle.histories.specs.History.{Leaves, RunsBy, Runs, Reached, Gives, judged}
+use Rattle.histories.specs.Callback.{Returned}
+use Rattle.histories.specs.Demands.{Again}
+use Rattle.histories.specs.Exports.{replyBy, saidBy, Typed, Export, fill, ask, grant, giveBack, dropHost, audit, ExportLeaves, ExportRuns, ReachedInC, callOf, ExportsAreCalls, Answered, EndsInC, Demand1InC, Demand2InC, TurnInC, ReturnedInC, turnOf, AgainInC, Demand3InC, AskIsDoneInC, GivesInC, NumbersOnceInC}
+use Rattle.histories.proofs.Shapes.{at-member, check-answers, decided-answers, put-answers, drop-entry-answers, fill-answers, ask-answers, grant-answers, return-answers, drop-answers}
+use Rattle.histories.proofs.Reaching.{numbers-once}
+use Rattle.histories.proofs.Demands.{audit-answers, demand2, demand3, ask-is-done}
+
+-- one value at most; no refusal's number is 0, and none goes both with a value and without
+unfoldable proper : Shape → Bool
+proper s =
+    leb (s .values) 1
+    && (allOf (λ n. not (eqb n 0) && not (anyOf (eqb n) (s .valued))) (s .plain)
+    && allOf (λ n. not (eqb n 0)) (s .valued))
+
+-- an answer leads back to what was said
+module _ (s : Shape) (p : proper s ≡ true) where
+  few : s .values ≤ 1
+  unfolding proper
+  few = leb-true (s .values) 1 (and-left (leb (s .values) 1) _ p)
+
+  plain-number : (number : ℕ) → anyOf (eqb number) (s .plain) ≡ true → (not (eqb number 0) && not (anyOf (eqb number) (s .valued))) ≡ true
+  unfolding proper
+  plain-number number e =
+      at-member (λ n. not (eqb n 0) && not (anyOf (eqb n) (s .valued))) (s .plain)
+      (and-left (allOf (λ n. not (eqb n 0) && not (anyOf (eqb n) (s .valued))) (s .plain)) (allOf (λ n. not (eqb n 0)) (s .valued)) (and-right (leb (s .values) 1) _ p)) number e
+
+  valued-number : (number : ℕ) → anyOf (eqb number) (s .valued) ≡ true → not (eqb number 0) ≡ true
+  unfolding proper
+  valued-number number e =
+      at-member (λ n. not (eqb n 0)) (s .valued)
+      (and-right (allOf (λ n. not (eqb n 0) && not (anyOf (eqb n) (s .valued))) (s .plain)) (allOf (λ n. not (eqb n 0)) (s .valued)) (and-right (leb (s .values) 1) _ p)) number e
+
+  way-back : (said : Said) → isAnswer s said ≡ true → (start size : ℕ) → saidBy s (answerFor said start size) ≡ said
+  unfolding replyBy answerFor isAnswer replySays
+  way-back (done []) e start size = rw (eq-eqb (s .values) 0 (sym (eqb-true 0 (s .values) e))) refl
+  way-back (done (v ∷ [])) e start size = rw (← eqb-true 1 (s .values) e) refl
+  way-back (done (v ∷ w ∷ more)) e start size = absurd (omega (arith, few, eqb-true (length (v ∷ w ∷ more)) (s .values) e))
+  way-back (refused number []) e start size =
+      let q = plain-number number e in
+      rw (and-left (not (eqb number 0)) (not (anyOf (eqb number) (s .valued))) q, not-true (anyOf (eqb number) (s .valued)) (and-right (not (eqb number 0)) (not (anyOf (eqb number) (s .valued))) q)) refl
+  way-back (refused number (v ∷ [])) e start size = rw (valued-number number e, e) refl
+  way-back (refused number (v ∷ w ∷ more)) e start size = absurd (differ (sym e))
+
+  module _ {a : Answer} (said : Said) (start size : ℕ) (told : a ≡ answerFor said start size) (e : isAnswer s said ≡ true) where
+    back : saidBy s a ≡ said
+    back = ap (saidBy s) told ∙ way-back said e start size
+
+    answered : Answered s start size a
+    answered = record { answers = rw back e; fields = rw back told }
+
+not-refused : (said : Said) → answerOf said .refused ≢ 0 → isDone said ≡ false
+unfolding answerOf answerFor isDone
+not-refused (done values) n = absurd (n refl)
+not-refused (refused number values) n = refl
+
+-- of a call that is lent a buffer to change
+module _ (s : Shape) (p : proper s ≡ true) {a : Answer} where
+  ends : (said : Said) (new old after : List ℕ) → a ≡ answerOf said → isAnswer s said ≡ true → after ≡ left said new old → EndsInC s a old after
+  unfolding answerOf
+  ends said new old after told e z = record {
+    answered = answered s p said 0 0 told e;
+    unchanged = λ n. z ∙ left-kept said new old (not-refused said (λ q. n (ap (λ (x : Answer). x .refused) told ∙ q)));
+  }
+
+  table-ends : (says : Table → Said) (changed : Table → Table) (bytes after : List ℕ) → a ≡ answerOf (saysOf says bytes) → isAnswer s (saysOf says bytes) ≡ true
+      → after ≡ leftOf says changed bytes → EndsInC s a bytes after
+  unfolding leftOf
+  table-ends says changed bytes after told e z = ends (saysOf says bytes) (bytesOf (changed (tableOf bytes))) bytes after told e z
+
+pub demand1-in-c : Demand1InC
+unfolding answerOf proper shape faults anyOf allOf ofCheck ofRights ofAudit ofPut ofDrop ofFill ofAsk ofGrant ofReturn ofDropHost decidedFor
+demand1-in-c = record {
+  check = λ list a c. answered ofCheck refl (checkSays list) 0 0 (c .answer) (check-answers list);
+  rights = λ list groups caller file a g. answered ofRights refl _ _ _ (g .answer) (decided-answers list groups (callerOf caller) (fileOf file) (guardOf file));
+  audit = λ bytes a d. answered ofAudit refl (truthSays (sound bytes)) 0 0 (d .answer) (audit-answers (sound bytes));
+  put = λ list out after entry a q. ends ofPut refl (putSays list (entryOf entry) out) (putting list (entryOf entry)) out after (q .answer) (put-answers list (entryOf entry) out) (q .out-after);
+  drop-entry = λ list out after entry a q.
+      ends ofDrop refl (dropEntrySays list (entryOf entry) out) (dropping list (entryOf entry)) out after (q .answer) (drop-entry-answers list (entryOf entry) out) (q .out-after);
+  fill = λ bytes after a f. ends ofFill refl (fillSays bytes) (bytesOf (filled (count bytes))) bytes after (f .answer) (fill-answers bytes) (f .table-after);
+  ask = λ bytes out after claim access a q.
+      ends ofAsk refl (saysOf (askSays (claimOf claim) access out) bytes) (listFor (claimOf claim) (tableOf bytes)) out after (q .answer) (ask-answers (claimOf claim) access out bytes) (q .out-after);
+  grant = λ bytes after claim access a g.
+      table-ends ofGrant refl (grantSays (claimOf claim) access) (granted (claimOf claim)) bytes after (g .answer) (grant-answers (claimOf claim) access bytes) (g .table-after);
+  give-back = λ bytes after host number types a g.
+      table-ends ofReturn refl (returnSays host number types) (returned host number types) bytes after (g .answer) (return-answers host number types bytes) (g .table-after);
+  drop-host = λ bytes after host a d. table-ends ofDropHost refl (dropSays host) (dropped host) bytes after (d .answer) (drop-answers host bytes) (d .table-after);
+}
+
+-- each export's statement is its call's, with the reply that the answer leads back to
+module _ {bytes after : List ℕ} {a : Answer} where
+  fills-back : Fills bytes a after → FillsTable bytes (replyBy ofFill a) after
+  unfolding answerOf proper shape anyOf allOf ofFill
+  fills-back f = record { answer = back ofFill refl (fillSays bytes) 0 0 (f .answer) (fill-answers bytes); table-after = f .table-after }
+
+  returns-back : {host number types : ℕ} → Returns bytes host number types a after → ReturnsTypes bytes host number types (replyBy ofReturn a) after
+  unfolding answerOf proper shape anyOf allOf ofReturn
+  returns-back {host} {number} {types} r =
+      record { answer = back ofReturn refl (saysOf (returnSays host number types) bytes) 0 0 (r .answer) (return-answers host number types bytes); table-after = r .table-after }
+
+  drops-back : {host : ℕ} → DropsHost bytes host a after → DropsTable bytes host (replyBy ofDropHost a) after
+  unfolding answerOf proper shape anyOf allOf ofDropHost
+  drops-back {host} d = record { answer = back ofDropHost refl (saysOf (dropSays host) bytes) 0 0 (d .answer) (drop-answers host bytes); table-after = d .table-after }
+
+  module _ {claim : Claim} {access : Access} where
+    grants-back : Grants bytes claim access a after → GrantsToken bytes (claimOf claim) access (replyBy ofGrant a) after
+    unfolding answerOf proper shape faults anyOf allOf ofGrant
+    grants-back g =
+        record { answer = back ofGrant refl (saysOf (grantSays (claimOf claim) access) bytes) 0 0 (g .answer) (grant-answers (claimOf claim) access bytes); table-after = g .table-after }
+
+    asks-back : {out : List ℕ} → Asks bytes claim access out a after → AsksTable bytes (claimOf claim) access out (replyBy ofAsk a) after
+    unfolding answerOf proper shape faults anyOf allOf ofAsk
+    asks-back {out} q =
+        record { answer = back ofAsk refl (saysOf (askSays (claimOf claim) access out) bytes) 0 0 (q .answer) (ask-answers (claimOf claim) access out bytes); out-after = q .out-after }
+
+-- what a claim's types hold fits the table's widths
+fits : (claim : Claim) → Typed claim → Fits (claimOf claim)
+unfolding claimOf
+fits claim t = record {
+  types = t .types;
+  host = t .host;
+  hi = number-fits (claim .file) (t .bytes) 0 8 (omega (arith, t .twelve));
+  lo = number-fits (claim .file) (t .bytes) 8 4 (omega (arith, t .twelve));
+  first = t .first;
+  last = t .last;
+}
+
+leaves-back : (e : Export) (before after : List ℕ) → ExportLeaves e before after → Leaves (callOf e) before after
+unfolding ExportLeaves callOf Leaves
+leaves-back fill before after l = (replyBy ofFill (l .0), fills-back (l .1))
+leaves-back (ask claim access out) before after l = (l .0, replyBy ofAsk (l .1), l .2, asks-back (l .3))
+leaves-back (grant claim access) before after l = (fits claim (l .0), replyBy ofGrant (l .1), grants-back (l .2))
+leaves-back (giveBack given) before after l = (replyBy ofReturn (l .0), returns-back (l .1))
+leaves-back (dropHost host) before after l = (replyBy ofDropHost (l .0), drops-back (l .1))
+leaves-back audit before after l = (l .0, sound before, record { answer = refl })
+
+runs-back : (es : List Export) (before after : List ℕ) → ExportRuns es before after → Runs (map callOf es) before after
+unfolding RunsBy
+runs-back [] before after r = r
+runs-back (e ∷ es) before after r = (r .0, leaves-back e before (r .0) (r .1), runs-back es (r .0) after (r .2))
+
+-- an answer of 0 leads back to what is done
+zero-back : (s : Shape) (a : Answer) → a .refused ≡ 0 → replyBy s a ≡ (if eqb (s .values) 0 then Done else Value (a .value))
+unfolding replyBy
+zero-back s a e = rw e refl
+
+pub exports-are-calls : ExportsAreCalls
+unfolding ofFill shape
+exports-are-calls bytes r = record {
+  lent = r .lent;
+  fresh = r .fresh;
+  fill = rw (← zero-back ofFill (r .answer) (r .done)) (fills-back (r .fill));
+  calls = map callOf (r .exports);
+  runs = runs-back (r .exports) (r .fresh) bytes (r .runs);
+}
+
+pub demand2-in-c : Demand2InC
+unfolding answerOf answerFor truthSays
+demand2-in-c bytes r =
+    let d = demand2 bytes (exports-are-calls bytes r) in
+    let yes-says : sound bytes ≡ true = d .audit-yes (sound bytes) (record { answer = refl }) in
+    (d, λ a q. (ap (λ (x : Answer). x .refused) (q .answer), ap (λ (x : Answer). x .value) (q .answer) ∙ rw yes-says refl))
+
+turns-back : (turns : List TurnInC) (before after : List ℕ) → ReturnedInC turns before after → Returned (map turnOf turns) before after
+unfolding ReturnedInC Returned
+turns-back [] before after r = r
+turns-back (turn ∷ turns) before after r = (r .0, returns-back (r .1), turns-back turns (r .0) after (r .2))
+
+again-back : (bytes : List ℕ) (claim : Claim) (turns : List TurnInC) (now : List ℕ) (a : Answer) → AgainInC bytes claim turns now a
+    → Again bytes (claimOf claim) (map turnOf turns) now (saidBy ofGrant a)
+unfolding claimOf
+again-back bytes claim turns now a g = record {
+  returned = turns-back turns bytes now (g .returned);
+  access = g .access;
+  permitted = g .permitted;
+  reply = replyBy ofGrant a;
+  after = g .after;
+  grant = grants-back (g .grant);
+  says = refl;
+}
+
+pub demand3-in-c : Demand3InC
+unfolding ofAsk shape
+demand3-in-c bytes r claim access out a after q e turns now again g =
+    demand3 bytes (exports-are-calls bytes r) (claimOf claim) access out (a .value) after (rw (← zero-back ofAsk a e) (asks-back q)) (map turnOf turns) now (saidBy ofGrant again)
+    (again-back bytes claim turns now again g)
+
+pub ask-is-done-in-c : AskIsDoneInC
+unfolding claimOf answerFor replySays
+ask-is-done-in-c bytes r claim shaped access permitted out room a after q =
+    let w = ask-is-done bytes (exports-are-calls bytes r) (claimOf claim) shaped access permitted out room (replyBy ofAsk a) after (asks-back q) in
+    let told = demand1-in-c .ask bytes out after claim access a q .answered .fields in
+    ap (λ (x : Answer). x .refused) (told ∙ ap (λ (x : Reply). answerFor (replySays x) 0 0) (w .1))
+
+gives-back : (before : List ℕ) (number : ℕ) (after : List ℕ) → GivesInC before number after → Gives before number after
+unfolding ofGrant shape
+gives-back before number after g = judged (claimOf (g .claim)) (g .access) (fits (g .claim) (g .typed)) (rw (← g .number-is, ← zero-back ofGrant (g .answer) (g .done)) (grants-back (g .grant)))
+
+pub numbers-once-in-c : NumbersOnceInC
+numbers-once-in-c bytes r number after g exports f later runs other last h =
+    numbers-once bytes (exports-are-calls bytes r) number after (gives-back bytes number after g) (map callOf exports) f later (runs-back exports after later runs) other last
+    (gives-back later other last h)
