@@ -3,7 +3,7 @@ use mathlib.Core.Path.{_≡_, refl, sym, _∙_, ap}
 use mathlib.Core.Bool.{Bool, true, false}
 use mathlib.Core.List.{List, [], _∷_, _++_, List·Memᴰ}
 use mathlib.Core.Logic.{_↔_}
-use Prim.Native.Nat.{ℕ, _*_, _≤_, _<_}
+use Prim.Native.Nat.{ℕ, _≤_, _<_}
 use native.Mathlib.Decide.{ℕ-discrete}
 use native.Mathlib.Omega.{arith}
 use borrow.Author.Tests.{le-ltb}
@@ -24,16 +24,15 @@ use Rattle.table.specs.Table.{Table, limit}
 use Rattle.table.specs.Layout.{tableOf, bytesOf}
 use Rattle.table.specs.Reply.{replySays}
 use Rattle.table.specs.Call.{saysOf, leftOf}
-use Rattle.table.specs.declared.reply.Reply.{Reply}
 use Rattle.table.specs.declared.reply.Reply.the-variants.{Done, Value}
 use Rattle.table.specs.declared.slot.Slot.the-variants.{Held}
+use Rattle.table.proofs.Calls.{says-well}
 use Rattle.table.proofs.Determined.{same-reply}
 use Rattle.table.proofs.Means.{Ordered, table-bytes, bytes-formed, order-at, below-next}
 use Rattle.tokens.specs.Grant.{isInTheWay, requestSays, serveSays, roomSays}
 use Rattle.tokens.specs.Ask.{inTheWay, listFor, listSays}
 use Rattle.tokens.proofs.Listed.{list-length}
 use Rattle.returns.specs.Return.{returnSays, returned}
-use Rattle.returns.specs.DropHost.{dropSays}
 use Rattle.returns.proofs.Kept.{return-order}
 use Rattle.audit.specs.Audit.{sound}
 use Rattle.audit.proofs.Exactly.{tokens-apart, apart-pairs}
@@ -223,21 +222,13 @@ module _ (t : Table) (s : Sound t) (bytes : List ℕ) (spelled : bytes ≡ bytes
       let read : entriesIn count after ≡ entries claim (t .slots) = rw (written, told .1) (read-list claim rest t o) in
       rw read (of-request t s claim (told .0) turns now said (rw spelled at again))
 
-  -- thirteen bytes for each slot are enough
-  enough : malformed claim (limit t) ≡ false → accessSays access (claim .types) ≡ done [] → 13 * length (t .slots) ≤ length out
-      → (r : Reply) (after : List ℕ) → Asks bytes claim access out r after → (count : ℕ) × (r ≡ Value count)
-  unfolding askSays judgedSays requestSays andThen listSays replySays
-  enough shaped permitted room r after a =
-      let o = s .order in
-      let few : length (listFor claim t) ≤ length out = omega (arith, list-length claim t, few-in-the-way claim t) in
-      let says : askSays claim access out t ≡ done (length (inTheWay claim t) ∷ []) = rw (shaped, permitted, le-ltb (length out) (length (listFor claim t)) few) refl in
-      (length (inTheWay claim t), same-reply r (Value (length (inTheWay claim t))) (rw spelled at (a .answer) ∙ says-there (askSays claim access out) t o ∙ says) refl)
-
 pub demand3 : Demand3
 demand3 bytes r claim access out = let p = reached-stands bytes r in of-ask (p .table) (p .sound) bytes (p .spelled) claim access out
 
 pub ask-is-done : AskIsDone
-ask-is-done bytes r claim shaped access permitted out room =
-    let p = reached-stands bytes r in
-    let same : tableOf bytes ≡ p .table = ap tableOf (p .spelled) ∙ table-bytes (p .table) (p .sound .order) in
-    enough (p .table) (p .sound) bytes (p .spelled) claim access out (rw same at shaped) permitted (rw same at room)
+unfolding askSays judgedSays requestSays andThen listSays replySays
+ask-is-done bytes formed claim shaped access permitted out room r after a =
+    let t = tableOf bytes in
+    let few : length (listFor claim t) ≤ length out = omega (arith, list-length claim t, few-in-the-way claim t) in
+    let says : askSays claim access out t ≡ done (length (inTheWay claim t) ∷ []) = rw (shaped, permitted, le-ltb (length out) (length (listFor claim t)) few) refl in
+    (length (inTheWay claim t), same-reply r (Value (length (inTheWay claim t))) (a .answer ∙ says-well (askSays claim access out) bytes formed ∙ says) refl)

@@ -38,10 +38,10 @@ use Rattle.exchange.specs.declared.given.Claim.{Claim}
 use Rattle.mastarik.specs.Lists.{decidedFor}
 use Rattle.mastarik.specs.Tables.{Fills, Asks, Grants, Returns, DropsHost}
 use Rattle.histories.specs.Shape.{Shape, shape, isAnswer, faults, ofCheck, ofRights, ofPut, ofDrop, ofFill, ofAsk, ofGrant, ofReturn, ofDropHost, ofAudit}
-use Rattle.histories.specs.History.{Leaves, RunsBy, Runs, Reached, Gives, judged}
+use Rattle.histories.specs.History.{Leaves, RunsBy, Runs, Gives, judged}
 use Rattle.histories.specs.Callback.{Returned}
 use Rattle.histories.specs.Demands.{Again}
-use Rattle.histories.specs.Exports.{replyBy, saidBy, Typed, Export, fill, ask, grant, giveBack, dropHost, audit, ExportLeaves, ExportRuns, ReachedInC, callOf, ExportsAreCalls, Answered, EndsInC, Demand1InC, Demand2InC, TurnInC, ReturnedInC, turnOf, AgainInC, Demand3InC, AskIsDoneInC, GivesInC, NumbersOnceInC}
+use Rattle.histories.specs.Exports.{replyBy, saidBy, Typed, Export, fill, ask, grant, giveBack, dropHost, audit, ExportLeaves, ExportRuns, callOf, ExportsAreCalls, Answered, EndsInC, Demand1InC, Demand2InC, TurnInC, ReturnedInC, turnOf, AgainInC, Demand3InC, AskIsDoneInC, GivesInC, NumbersOnceInC}
 use Rattle.histories.proofs.Shapes.{at-member, check-answers, decided-answers, put-answers, drop-entry-answers, fill-answers, ask-answers, grant-answers, return-answers, drop-answers}
 use Rattle.histories.proofs.Reaching.{numbers-once}
 use Rattle.histories.proofs.Demands.{audit-answers, demand2, demand3, ask-is-done}
@@ -227,8 +227,8 @@ demand3-in-c bytes r claim access out a after q e turns now again g =
 
 pub ask-is-done-in-c : AskIsDoneInC
 unfolding claimOf answerFor replySays
-ask-is-done-in-c bytes r claim shaped access permitted out room a after q =
-    let w = ask-is-done bytes (exports-are-calls bytes r) (claimOf claim) shaped access permitted out room (replyBy ofAsk a) after (asks-back q) in
+ask-is-done-in-c bytes formed claim shaped access permitted out room a after q =
+    let w = ask-is-done bytes formed (claimOf claim) shaped access permitted out room (replyBy ofAsk a) after (asks-back q) in
     let told = demand1-in-c .ask bytes out after claim access a q .answered .fields in
     ap (λ (x : Answer). x .refused) (told ∙ ap (λ (x : Reply). answerFor (replySays x) 0 0) (w .1))
 

@@ -8,7 +8,7 @@ use native.Mathlib.Nat.{le-refl}
 use native.Mathlib.Omega.{arith}
 use borrow.Author.Tests.{ne-eqb}
 use lib.ListN.{length, getD, replicate, length-replicate, List·getD-map}
-use Rattle.words.specs.Test.{if_then_else_, anyOf}
+use Rattle.words.specs.Test.{if_then_else_}
 use Rattle.words.specs.Said.{Said, done, refused, andThen, left}
 use Rattle.words.proofs.Tests.{differ, Each, none-any}
 use Rattle.words.proofs.Left.{left-whole, not-done}

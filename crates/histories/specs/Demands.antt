@@ -130,9 +130,10 @@ Demand3 = (bytes : List ℕ) → Reached bytes
     → (turns : List Turn) (now : List ℕ) (said : Said) → Again bytes claim turns now said
     → LeastThatServes (entriesIn count after) turns now said
 
--- and an ask of a well-formed request that is permitted is done if its buffer has thirteen bytes for each of the table's slots
+-- and there is always a list to speak of: in any well-formed table an ask of a well-formed request that is permitted is done if its buffer has
+-- thirteen bytes for each of the table's slots
 abbrev pub AskIsDone : Type 0
-AskIsDone = (bytes : List ℕ) → Reached bytes → (claim : Claim) → malformed claim (limit (tableOf bytes)) ≡ false
+AskIsDone = (bytes : List ℕ) → wellFormed bytes ≡ true → (claim : Claim) → malformed claim (limit (tableOf bytes)) ≡ false
     → (access : Access) → accessSays access (claim .types) ≡ done [] → (out : List ℕ) → 13 * length (tableOf bytes .slots) ≤ length out
     → (r : Reply) (after : List ℕ) → Asks bytes claim access out r after → (count : ℕ) × (r ≡ Value count)
 

@@ -12,6 +12,7 @@ use Rattle.words.specs.Number.{Bytes}
 use Rattle.claims.specs.Claim.{malformed}
 use Rattle.table.specs.Table.{limit}
 use Rattle.table.specs.Layout.{tableOf}
+use Rattle.table.specs.Form.{wellFormed}
 use Rattle.table.specs.Reply.{replySays}
 use Rattle.table.specs.declared.reply.Reply.{Reply}
 use Rattle.table.specs.declared.reply.Reply.the-variants.{Done, Value, Refused, RefusedWith}
@@ -151,9 +152,10 @@ Demand3InC = (bytes : List ℕ) → ReachedInC bytes
     → (turns : List TurnInC) (now : List ℕ) (again : Answer) → AgainInC bytes claim turns now again
     → LeastThatServes (entriesIn (a .value) after) (map turnOf turns) now (saidBy ofGrant again)
 
--- an ask of a well-formed request that is permitted answers 0 if its buffer has thirteen bytes for each of the table's slots
+-- in any well-formed table an ask of a well-formed request that is permitted answers 0 if its buffer has thirteen bytes for each of the table's
+-- slots
 abbrev pub AskIsDoneInC : Type 0
-AskIsDoneInC = (bytes : List ℕ) → ReachedInC bytes → (claim : Claim) → malformed (claimOf claim) (limit (tableOf bytes)) ≡ false
+AskIsDoneInC = (bytes : List ℕ) → wellFormed bytes ≡ true → (claim : Claim) → malformed (claimOf claim) (limit (tableOf bytes)) ≡ false
     → (access : Access) → accessSays access (claim .types) ≡ done [] → (out : List ℕ) → 13 * length (tableOf bytes .slots) ≤ length out
     → (a : Answer) (after : List ℕ) → Asks bytes claim access out a after → a .refused ≡ 0
 
