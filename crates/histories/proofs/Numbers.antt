@@ -16,7 +16,7 @@ use Rattle.list.specs.Checking.{Found, cut, records, refusedAt, passed, faultsA
 use Rattle.records.specs.declared.records.Record.{Record}
 use Rattle.records.specs.declared.records.Read.{Read}
 use Rattle.records.specs.declared.records.Read.the-variants.{Nothing, Unknown, Short, Whole}
-use Rattle.evaluate.specs.Evaluation.{Decided, bare, unlessRefused, byStep, evaluation}
+use Rattle.evaluate.specs.Evaluation.{Decided, bare, unlessTooMany, unlessRefused, byStep, listGives}
 use Rattle.evaluate.specs.declared.asking.Caller.{Caller}
 use Rattle.evaluate.specs.declared.asking.File.{File}
 use Rattle.rights.specs.Mode.{modeRights}
@@ -146,12 +146,12 @@ mode-answers groups caller file local mode = go (sameRealm local unknownRealm) (
     go false false = refl
 
 guard-answers : (guard : Guard) (list groups : List ℕ) (caller : Caller) (file : File) → isAnswerOrRefusal (byGuard guard list groups caller file .says) ≡ true
-unfolding byGuard evaluation byStep
+unfolding byGuard listGives byStep
 guard-answers ByList list groups caller file = unless-answers (checkSays list) _ (check-answers list) (plain _)
 guard-answers (Mode local mode) list groups caller file = mode-answers groups caller file local mode
 
 decided-answers : (list groups : List ℕ) (caller : Caller) (file : File) (guard : Guard) → isAnswerOrRefusal (decided list groups caller file guard .says) ≡ true
-unfolding decided bare isAnswerOrRefusal isRefusal anyOf
+unfolding decided unlessTooMany bare isAnswerOrRefusal isRefusal anyOf
 decided-answers list groups caller file guard = go (ltb 32 (length groups))
   where
     go : (b : Bool) → isAnswerOrRefusal ((if b then bare (refused 23 []) else byGuard guard list groups caller file) .says) ≡ true
