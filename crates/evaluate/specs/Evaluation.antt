@@ -26,7 +26,7 @@ pub record Decided : Type 0 where
 unfoldable pub bare : Said → Decided
 bare says = record { says = says; start = 0; size = 0 }
 
--- more than 32 groups come before all that follows
+-- 23, more than 32 groups, comes before all else
 unfoldable pub unlessTooMany : List ℕ → Decided → Decided
 unlessTooMany groups decided = if ltb 32 (length groups) then bare (refused 23 []) else decided
 
@@ -47,7 +47,7 @@ servedIn list groups caller file = served (steps (sameRealm (caller .realm) (rea
 unfoldable pub listGives : List ℕ → List ℕ → Caller → File → Decided
 listGives list groups caller file = unlessRefused (checkSays list) (byStep (servedIn list groups caller file) (records list))
 
--- the same by a call, which refuses too many groups first
+-- evaluating a list: 23, then its own refusals, then its steps
 unfoldable pub evaluation : List ℕ → List ℕ → Caller → File → Decided
 evaluation list groups caller file = unlessTooMany groups (listGives list groups caller file)
 
