@@ -21,7 +21,7 @@ pub fn put_entry(list: &[u8], entry: Entry, out: &mut [u8]) -> Edited
     ensures { λ r. ⌜ Puts (now (list .entry)) entry (now (out .entry)) r (now (out .exit)) ⌝ }
 {
     match plan_put(list, entry) {
-        Plan::Splice { spot, size, length } => write_put(list, spot, entry, size, length, out),
+        Plan::Splice { spot, size, total } => write_put(list, spot, entry, size, total, out),
         Plan::Refused { number } => Edited::Refused { number: number },
         Plan::RefusedAt { number, place } => Edited::RefusedAt {
             number: number,
@@ -38,8 +38,8 @@ pub fn drop_entry(list: &[u8], entry: Entry, out: &mut [u8]) -> Edited
         Plan::Splice {
             spot,
             size: _,
-            length,
-        } => write_drop(list, spot, length, out),
+            total,
+        } => write_drop(list, spot, total, out),
         Plan::Refused { number } => Edited::Refused { number: number },
         Plan::RefusedAt { number, place } => Edited::RefusedAt {
             number: number,

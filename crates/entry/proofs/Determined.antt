@@ -18,7 +18,7 @@ planOf (refused number (place ∷ more)) = RefusedAt number place
 
 plan-back : (p : Plan) → planOf (planSays p) ≡ p
 unfolding planOf planSays
-plan-back (Splice spot size length) = refl
+plan-back (Splice spot width total) = refl
 plan-back (Refused number) = refl
 plan-back (RefusedAt number place) = refl
 

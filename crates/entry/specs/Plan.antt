@@ -42,7 +42,7 @@ spotFor list r = record {
 
 -- what each plan says by 01's numbers; of a splice the place, how many bytes give way there, how many come, and the new list's length
 unfoldable pub planSays : Plan → Said
-planSays (Splice spot size length) = done (spot .at ∷ spot .size ∷ size ∷ length ∷ [])
+planSays (Splice spot width total) = done (spot .at ∷ spot .size ∷ width ∷ total ∷ [])
 planSays (Refused number) = refused number []
 planSays (RefusedAt number place) = refused number (place ∷ [])
 

@@ -10,7 +10,7 @@ use Rattle.records.specs.declared.records.Record.{Record}
 
 -- a part of a body, which has no bytes where the kind has no such part
 unfoldable pub partOf : ℕ → List ℕ → List ℕ
-partOf length bytes = if eqb length 0 then [] else bytes
+partOf width bytes = if eqb width 0 then [] else bytes
 
 -- the kind, then its realm, its id and its rights
 unfoldable pub spelled : Record → List ℕ

@@ -56,19 +56,19 @@ pub(crate) fn id_length(kind: u8) -> usize
     4
 }
 
-fn realm_if(length: usize, realm: Realm) -> Realm
-    ensures { λ r. ⌜ r ≡ (if eqb length 0 then zeroRealm else realm) ⌝ }
+fn realm_if(width: usize, realm: Realm) -> Realm
+    ensures { λ r. ⌜ r ≡ (if eqb width 0 then zeroRealm else realm) ⌝ }
 {
-    if length == 0 {
+    if width == 0 {
         return Realm { hi: 0, lo: 0 };
     }
     realm
 }
 
-fn id_if(length: usize, id: u32) -> u32
-    ensures { λ r. ⌜ r ≡ (if eqb length 0 then 0 else id) ⌝ }
+fn id_if(width: usize, id: u32) -> u32
+    ensures { λ r. ⌜ r ≡ (if eqb width 0 then 0 else id) ⌝ }
 {
-    if length == 0 {
+    if width == 0 {
         return 0;
     }
     id

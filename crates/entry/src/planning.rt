@@ -21,7 +21,7 @@ pub enum Plan {
     Splice {
         spot: Spot,
         size: usize,
-        length: usize,
+        total: usize,
     },
     // 20.
     Refused {
@@ -56,7 +56,7 @@ fn put_checked(list: &[u8], entry: Entry) -> Plan
         Verdict::Fine => Plan::Splice {
             spot: spot,
             size: r.size,
-            length: n,
+            total: n,
         },
     }
 }
@@ -87,7 +87,7 @@ fn drop_checked(list: &[u8], entry: Entry) -> Plan
         Verdict::Fine => Plan::Splice {
             spot: spot,
             size: 0,
-            length: n,
+            total: n,
         },
     }
 }

@@ -3,6 +3,8 @@ use mathlib.Core.Path.{_≡_, refl}
 use mathlib.Core.List.{List, [], _∷_}
 use mathlib.Core.Bool.{Bool}
 use Prim.Native.Nat.{ℕ, suc}
+use lib.Dec.{ltb}
+use lib.ListN.{length}
 use Rattle.words.specs.Test.{those}
 use Rattle.words.specs.Realm.{realmAt, sameRealm}
 use Rattle.words.specs.declared.realm.Realm.{Realm}
@@ -10,7 +12,7 @@ use Rattle.list.specs.Checking.{Placed, records}
 use Rattle.records.specs.declared.records.Record.{Record}
 use Rattle.evaluate.specs.Asking.{inGroup}
 use Rattle.evaluate.specs.Steps.{Step, masked, unmasked, here, abroad, steps, serving, servedFrom}
-use Rattle.evaluate.specs.Evaluation.{servedIn, evaluation}
+use Rattle.evaluate.specs.Evaluation.{unlessTooMany, servedIn, listGives, evaluation}
 use Rattle.evaluate.specs.declared.asking.Caller.{Caller}
 use Rattle.evaluate.specs.declared.asking.File.{File}
 
@@ -51,6 +53,12 @@ module _ (realm : Realm) (user group group′ : ℕ) (groups groups′ : List �
     unfolding Same steps here abroad masked unmasked
     steps-same home = ((λ r. refl), (refl, ((λ r. refl), (refl, ((λ r. rw (same (file .group), same (r .id))), (refl, ((λ r. refl), (refl, ((λ r. refl), (refl, ((λ r. refl), (refl, tt))))))))))))
 
-    pub alike : (list : List ℕ) → evaluation list groups caller file ≡ evaluation list groups′ caller′ file
-    unfolding evaluation servedIn
-    alike list = rw (served-same 1 _ _ (records list) (steps-same (sameRealm realm (realmAt 1 list))))
+    pub gives-alike : (list : List ℕ) → listGives list groups caller file ≡ listGives list groups′ caller′ file
+    unfolding listGives servedIn
+    gives-alike list = rw (served-same 1 _ _ (records list) (steps-same (sameRealm realm (realmAt 1 list))))
+
+    -- where both have more than 32 groups, or neither
+    pub alike : (list : List ℕ) → ltb 32 (length groups) ≡ ltb 32 (length groups′)
+        → evaluation list groups caller file ≡ evaluation list groups′ caller′ file
+    unfolding evaluation unlessTooMany
+    alike list q = rw (q, gives-alike list)

@@ -1,6 +1,6 @@
 -- Two outcomes that meet a statement are equal. Assumes nothing.
 use mathlib.Core.Path.{_≡_, refl, sym, _∙_}
-use mathlib.Core.List.{List}
+use mathlib.Core.List.{List, [], _∷_}
 use mathlib.Core.Bool.{Bool}
 use Prim.Native.Nat.{ℕ}
 use lib.ListN.{getD}
@@ -11,7 +11,7 @@ use Rattle.evaluate.specs.Evaluation.{Decided, bare, evaluatedAs, verdic
 use Rattle.evaluate.specs.declared.asking.Caller.{Caller}
 use Rattle.evaluate.specs.declared.asking.File.{File}
 use Rattle.evaluate.specs.declared.evaluation.Evaluated.{Evaluated}
-use Rattle.evaluate.specs.declared.evaluation.Evaluated.the-variants.{Rights, Refused}
+use Rattle.evaluate.specs.declared.evaluation.Evaluated.the-variants.{Rights, Refused, RefusedAt}
 use Rattle.evaluate.specs.declared.verdict.Verdict.{Verdict}
 use Rattle.evaluate.specs.declared.verdict.Verdict.the-variants.{Fine, Refused as Faulty}
 
@@ -34,12 +34,14 @@ check-list-determined list r r′ p q = same-answer verdictSays verdict verdict-
 -- the evaluation that says it, with a part
 evaluated : Said → ℕ → ℕ → Evaluated
 evaluated (done values) start size = Rights (getD values 0 0) start size
-evaluated (refused number values) start size = Refused number (getD values 0 0)
+evaluated (refused number []) start size = Refused number
+evaluated (refused number (place ∷ more)) start size = RefusedAt number place
 
 evaluated-of : (r : Evaluated) → evaluated (evaluatedAs r .says) (evaluatedAs r .start) (evaluatedAs r .size) ≡ r
 unfolding evaluated evaluatedAs bare
 evaluated-of (Rights rights start size) = refl
-evaluated-of (Refused number place) = refl
+evaluated-of (Refused number) = refl
+evaluated-of (RefusedAt number place) = refl
 
 pub evaluate-determined : (list groups : List ℕ) (caller : Caller) (file : File) (r r′ : Evaluated)
     → Evaluates list groups caller file r → Evaluates list groups caller file r′ → r ≡ r′

@@ -2,6 +2,7 @@ pub mod Groups
 pub mod Serving
 pub mod Counting
 pub mod Masking
+pub mod Many
 pub mod Passing
 pub mod Deciders
 pub mod Inside

@@ -12,11 +12,11 @@ use Rattle.list.specs.Fault.{noRecord}
 use Rattle.list.specs.Checking.{Placed, placed, records, checkSays}
 use Rattle.records.specs.declared.records.Record.{Record}
 use Rattle.evaluate.specs.Steps.{Step, masked, unmasked, here, abroad, steps, serving, servedFrom, served, union, isMask, masking, first}
-use Rattle.evaluate.specs.Evaluation.{unlessRefused, byStep, servedIn, evaluation, evaluatedAs, verdictSays}
+use Rattle.evaluate.specs.Evaluation.{unlessRefused, byStep, servedIn, listGives, evaluatedAs, verdictSays}
 use Rattle.evaluate.specs.Tally.{noTally, tallying, allowed, tallyIn, passSays, Passes}
 use Rattle.evaluate.specs.declared.asking.Caller.{Caller}
 use Rattle.evaluate.specs.declared.asking.File.{File}
-use Rattle.evaluate.specs.declared.evaluation.Evaluated.the-variants.{Rights, Refused as Rejected}
+use Rattle.evaluate.specs.declared.evaluation.Evaluated.the-variants.{Rights, RefusedAt as Rejected}
 use Rattle.evaluate.specs.declared.pass.Passed.{Passed}
 use Rattle.evaluate.specs.declared.pass.Passed.the-variants.{Refused, Fine}
 use Rattle.evaluate.specs.declared.tally.Tally.{Tally}
@@ -79,11 +79,11 @@ module _ {l groups : List ℕ} {caller : Caller} {file : File} where
     unfolding verdictSays
     checked-fine q = sym (fine q)
 
-    pub evaluated-refused : {number place : ℕ} → r ≡ Refused number place → evaluatedAs (Rejected number place) ≡ evaluation l groups caller file
-    unfolding evaluatedAs evaluation unlessRefused
+    pub evaluated-refused : {number place : ℕ} → r ≡ Refused number place → evaluatedAs (Rejected number place) ≡ listGives l groups caller file
+    unfolding evaluatedAs listGives unlessRefused
     evaluated-refused q = rw (refuses q)
 
     pub evaluated-fine : {t : Tally} {rights : ℕ} → r ≡ Fine t → rights ≡ allowed t → t .rights < 256
-        → evaluatedAs (Rights rights (t .start) (t .size)) ≡ evaluation l groups caller file
-    unfolding evaluatedAs evaluation unlessRefused servedIn tallyIn
+        → evaluatedAs (Rights rights (t .start) (t .size)) ≡ listGives l groups caller file
+    unfolding evaluatedAs listGives unlessRefused servedIn tallyIn
     evaluated-fine {t = t} q a h = rw (fine q, a) (decides (sameRealm (caller .realm) (realmAt 1 l)) groups caller file (records l) t (passes .tally t q) h)

@@ -4,8 +4,8 @@ use Prim.Native.Nat.{ℕ}
 use Rattle.words.specs.Said.{Said, done, refused}
 use Rattle.exchange.specs.Answer.{answerFor, answerOf}
 
-pub with-record : (said : Said) (start length : ℕ)
-    → record { refused = answerOf said .refused; value = answerOf said .value; detail = answerOf said .detail; start = start; length = length } ≡ answerFor said start length
+pub with-record : (said : Said) (start size : ℕ)
+    → record { refused = answerOf said .refused; value = answerOf said .value; detail = answerOf said .detail; start = start; length = size } ≡ answerFor said start size
 unfolding answerOf answerFor
-with-record (done values) start length = refl
-with-record (refused number values) start length = refl
+with-record (done values) start size = refl
+with-record (refused number values) start size = refl

@@ -9,8 +9,8 @@ use Rattle.exchange.specs.declared.answer.Answer.{Answer}
 
 -- with the deciding record's place and length
 unfoldable pub answerFor : Said → ℕ → ℕ → Answer
-answerFor (done values) start length = record { refused = 0; value = getD values 0 0; detail = 0; start = start; length = length }
-answerFor (refused number values) start length = record { refused = number; value = 0; detail = getD values 0 0; start = start; length = length }
+answerFor (done values) start size = record { refused = 0; value = getD values 0 0; detail = 0; start = start; length = size }
+answerFor (refused number values) start size = record { refused = number; value = 0; detail = getD values 0 0; start = start; length = size }
 
 unfoldable pub answerOf : Said → Answer
 answerOf says = answerFor says 0 0

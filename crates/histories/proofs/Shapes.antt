@@ -18,7 +18,7 @@ use Rattle.list.specs.Checking.{Found, cut, records, refusedAt, passed, faultsA
 use Rattle.records.specs.declared.records.Record.{Record}
 use Rattle.records.specs.declared.records.Read.{Read}
 use Rattle.records.specs.declared.records.Read.the-variants.{Nothing, Unknown, Short, Whole}
-use Rattle.evaluate.specs.Evaluation.{Decided, bare, unlessRefused, byStep, evaluation}
+use Rattle.evaluate.specs.Evaluation.{Decided, bare, unlessTooMany, unlessRefused, byStep, listGives, evaluation}
 use Rattle.evaluate.specs.declared.asking.Caller.{Caller}
 use Rattle.evaluate.specs.declared.asking.File.{File}
 use Rattle.rights.specs.Mode.{modeRights}
@@ -152,9 +152,22 @@ unfolding unlessRefused bare refuses
 unless-answers s (done values) d p q = q
 unless-answers s (refused number values) d p q = p
 
+list-gives : (list groups : List ℕ) (caller : Caller) (file : File) → isAnswer ofEvaluate (listGives list groups caller file .says) ≡ true
+unfolding listGives byStep within isAnswer ofEvaluate ofCheck shape faults anyOf allOf
+list-gives list groups caller file = unless-answers ofEvaluate (checkSays list) _ (check-refuses ofEvaluate refl list) refl
+
+-- 23 comes first
+too-many-answers : (s : Shape) → isAnswer s (refused 23 []) ≡ true → (groups : List ℕ) (d : Decided) → isAnswer s (d .says) ≡ true → isAnswer s (unlessTooMany groups d .says) ≡ true
+unfolding unlessTooMany bare
+too-many-answers s p groups d q = go (ltb 32 (length groups))
+  where
+    go : (b : Bool) → isAnswer s ((if b then bare (refused 23 []) else d) .says) ≡ true
+    go true = p
+    go false = q
+
 pub evaluation-answers : (list groups : List ℕ) (caller : Caller) (file : File) → isAnswer ofEvaluate (evaluation list groups caller file .says) ≡ true
-unfolding evaluation byStep within isAnswer ofEvaluate ofCheck shape faults anyOf allOf
-evaluation-answers list groups caller file = unless-answers ofEvaluate (checkSays list) _ (check-refuses ofEvaluate refl list) refl
+unfolding evaluation isAnswer ofEvaluate shape anyOf
+evaluation-answers list groups caller file = too-many-answers ofEvaluate refl groups _ (list-gives list groups caller file)
 
 mode-answers : (groups : List ℕ) (caller : Caller) (file : File) (local : Realm) (mode : ℕ) → isAnswer ofRights (byMode groups caller file local mode .says) ≡ true
 unfolding byMode bare isAnswer ofRights shape faults anyOf
@@ -167,16 +180,12 @@ mode-answers groups caller file local mode = go (sameRealm local unknownRealm) (
 
 guard-answers : (guard : Guard) (list groups : List ℕ) (caller : Caller) (file : File) → isAnswer ofRights (byGuard guard list groups caller file .says) ≡ true
 unfolding byGuard within ofEvaluate ofRights shape faults anyOf allOf
-guard-answers ByList list groups caller file = wider-answer ofEvaluate ofRights refl refl _ (evaluation-answers list groups caller file)
+guard-answers ByList list groups caller file = wider-answer ofEvaluate ofRights refl refl _ (list-gives list groups caller file)
 guard-answers (Mode local mode) list groups caller file = mode-answers groups caller file local mode
 
 pub decided-answers : (list groups : List ℕ) (caller : Caller) (file : File) (guard : Guard) → isAnswer ofRights (decided list groups caller file guard .says) ≡ true
-unfolding decided bare isAnswer ofRights shape faults anyOf
-decided-answers list groups caller file guard = go (ltb 32 (length groups))
-  where
-    go : (b : Bool) → isAnswer ofRights ((if b then bare (refused 23 []) else byGuard guard list groups caller file) .says) ≡ true
-    go true = refl
-    go false = guard-answers guard list groups caller file
+unfolding decided isAnswer ofRights shape anyOf
+decided-answers list groups caller file guard = too-many-answers ofRights refl groups _ (guard-answers guard list groups caller file)
 
 -- and then 24
 permits-answers : (said : Said) (needs : ℕ) → isAnswer ofRights said ≡ true → isAnswer ofJudge (permits said needs) ≡ true

@@ -26,6 +26,7 @@ use Rattle.list.specs.declared.walk.Walk.{Walk}
 use Rattle.list.specs.declared.walk.Step.{Step}
 use Rattle.list.specs.declared.walk.Step.the-variants.{Next, Refused, End}
 use Rattle.list.proofs.Marks.{of, joined, marked}
+use Rattle.list.proofs.Determined.{step-is}
 
 -- what was seen, and what the records to come have
 seeing : Seen → List Placed → Seen
@@ -188,7 +189,7 @@ starts f l a = record { fuel = length l; enough = omega arith; says = refl; gath
 
 module _ {A : Type 0} {f : A → Placed → A} {l : List ℕ} {first a : A} {w : Walk} {s : Step} (stepped : Steps w l s) (so-far : Leads f l first a w) where
   turned : Turn (so-far .fuel) w l s
-  turned = rw (stepped .answer) (turn (so-far .fuel) w l (so-far .enough))
+  turned = rw (step-is stepped) (turn (so-far .fuel) w l (so-far .enough))
 
   module _ {r : Record} {v : Walk} (q : s ≡ Next r v) where
     onward : Onward (so-far .fuel) w l r v

@@ -1,12 +1,12 @@
 -- A walk over a whole list says what the check says, and meets the list's records. Assumes nothing.
-use mathlib.Core.Path.{_≡_, refl, sym, _∙_}
+use mathlib.Core.Path.{_≡_, refl, sym, _∙_, ap}
 use mathlib.Core.List.{List, [], _∷_, _++_, foldl, append-assoc, append-nil}
 use Prim.Native.Nat.{ℕ, zero, suc, _-_, _<_}
 use native.Mathlib.Omega.{arith}
 use lib.ListN.{length}
 use Rattle.words.specs.Said.{done}
 use Rattle.list.specs.Checking.{Placed, placed, records, checkSays}
-use Rattle.list.specs.Walking.{startOf, stepOf, Steps, Run, meeting, runFrom, run}
+use Rattle.list.specs.Walking.{startOf, stepOf, stepSays, Steps, Run, meeting, runFrom, run}
 use Rattle.list.specs.declared.walk.Walk.{Walk}
 use Rattle.list.specs.declared.walk.Step.{Step}
 use Rattle.list.specs.declared.walk.Step.the-variants.{Next, Refused, End}
@@ -34,18 +34,18 @@ module _ (l : List ℕ) where
       go : ((v : Walk) (so-far : List Placed) → length l - v .at < n → Leads met-too l [] so-far v → Said-and-met l so-far (runFrom n v l))
           → (s : Step) → stepOf w l ≡ s → Said-and-met l so-far (meeting (w .at) s (λ v. runFrom n v l))
       go later (Next r v) q =
-          let stepped : Steps w l (Next r v) = record { answer = sym q } in
+          let stepped : Steps w l (Next r v) = record { answer = ap stepSays (sym q) } in
           let f = falls stepped leads refl in
           let rest = later v (so-far ++ (placed (w .at) r ∷ [])) (omega arith) (goes stepped leads refl) in
           record { said = rest .said; met = λ d. sym (append-assoc so-far (placed (w .at) r ∷ []) _) ∙ rest .met d }
       go later (Refused number place) q =
-          let stepped : Steps w l (Refused number place) = record { answer = sym q } in
+          let stepped : Steps w l (Refused number place) = record { answer = ap stepSays (sym q) } in
           record {
             said = sym (refuses stepped leads refl);
             met = λ d. let z : _≡_ {A = ℕ} 0 1 = cc in absurd (omega arith);
           }
       go later End q =
-          let stepped : Steps w l End = record { answer = sym q } in
+          let stepped : Steps w l End = record { answer = ap stepSays (sym q) } in
           record {
             said = sym (passes-all stepped leads refl);
             met = λ d. append-nil so-far ∙ gathers-all stepped leads refl ∙ all-met [] (records l);

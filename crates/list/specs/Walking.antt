@@ -1,7 +1,7 @@
 -- The walk over a list: one step gives the record and the walk after it, or the refusal with its place, or the end.
 use mathlib.Core.Path.{_≡_}
 use mathlib.Core.Bool.{not, _&&_}
-use mathlib.Core.List.{List, [], _∷_}
+use mathlib.Core.List.{List, [], _∷_, _++_}
 use Prim.Native.Nat.{ℕ, zero, suc, _+_}
 use lib.Bits.{bitOr}
 use lib.Dec.{eqb, ltb, leb}
@@ -11,7 +11,7 @@ use Rattle.words.specs.Said.{Said, done, refused}
 use Rattle.words.specs.Bit.{bit}
 use Rattle.words.specs.Realm.{realmAt}
 use Rattle.records.specs.Kind.{wantsMask}
-use Rattle.records.specs.Reading.{readOf, whenWhole}
+use Rattle.records.specs.Reading.{readOf, whenWhole, recordValues}
 use Rattle.records.specs.Standing.{lacksControl}
 use Rattle.records.specs.declared.records.Record.{Record}
 use Rattle.records.specs.declared.records.Read.{Read}
@@ -76,9 +76,19 @@ stepOf walk list =
 pub record Starts (list : List ℕ) (r : Walk) : Type 0 where
   pub answer : r ≡ startOf list
 
+-- a walk's values: its place, the default realm, the record before, the marks
+unfoldable pub walkValues : Walk → List ℕ
+walkValues walk = walk .at ∷ walk .home .hi ∷ walk .home .lo ∷ (recordValues (walk .earlier) ++ (walk .marks ∷ []))
+
+-- what each step says by 01's numbers; of a record met its values, then those of the walk after it
+unfoldable pub stepSays : Step → Said
+stepSays (Next r walk) = done (recordValues r ++ walkValues walk)
+stepSays (Refused number place) = refused number (place ∷ [])
+stepSays End = done []
+
 -- one step
 pub record Steps (walk : Walk) (list : List ℕ) (r : Step) : Type 0 where
-  pub answer : r ≡ stepOf walk list
+  pub answer : stepSays r ≡ stepSays (stepOf walk list)
 
 -- what a walk meets to its end, and what it says there
 pub record Run : Type 0 where

@@ -1,11 +1,12 @@
 -- One record, read from the part of the list that begins at it.
 use mathlib.Core.Path.{_≡_}
 use mathlib.Core.Bool.{not}
-use mathlib.Core.List.{List}
+use mathlib.Core.List.{List, [], _∷_}
 use Prim.Native.Nat.{ℕ, _+_}
 use lib.Dec.{eqb, ltb}
 use lib.ListN.{length, getD}
 use Rattle.words.specs.Test.{if_then_else_}
+use Rattle.words.specs.Said.{Said, done, refused}
 use Rattle.words.specs.Number.{numberAt}
 use Rattle.words.specs.Realm.{zeroRealm, realmAt}
 use Rattle.records.specs.Kind.{bodyOf, isKnown, size}
@@ -42,6 +43,17 @@ module _ {A : Type 0} where
   whenWhole Short follows other = other
   whenWhole (Whole r) follows other = follows r
 
+-- a record's values: kind, realm, id, rights and length
+unfoldable pub recordValues : Record → List ℕ
+recordValues r = r .kind ∷ r .realm .hi ∷ r .realm .lo ∷ r .id ∷ r .rights ∷ r .size ∷ []
+
+-- what each reading says by 01's numbers; the place is that in the part, which begins at the record
+unfoldable pub readSays : Read → Said
+readSays Nothing = done []
+readSays Unknown = refused 12 (0 ∷ [])
+readSays Short = refused 13 (0 ∷ [])
+readSays (Whole r) = done (recordValues r)
+
 -- reading one record
 pub record ReadsRecord (tail : List ℕ) (r : Read) : Type 0 where
-  pub answer : r ≡ readOf tail
+  pub answer : readSays r ≡ readSays (readOf tail)

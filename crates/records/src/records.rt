@@ -38,28 +38,28 @@ pub enum Read {
     Whole(Record),
 }
 
-fn realm_in(tail: &[u8], length: usize) -> Realm
-    ensures { λ r. ⌜ r ≡ (if eqb length 0 then zeroRealm else realmAt 1 (now (tail .entry))) ⌝ }
+fn realm_in(tail: &[u8], width: usize) -> Realm
+    ensures { λ r. ⌜ r ≡ (if eqb width 0 then zeroRealm else realmAt 1 (now (tail .entry))) ⌝ }
 {
-    if length == 0 {
+    if width == 0 {
         return Realm { hi: 0, lo: 0 };
     }
     realm_at(tail, 1)
 }
 
-fn id_in(tail: &[u8], length: usize, at: usize) -> u32
-    ensures { λ r. ⌜ r ≡ (if eqb length 0 then 0 else numberAt 4 at (now (tail .entry))) ⌝ }
+fn id_in(tail: &[u8], width: usize, at: usize) -> u32
+    ensures { λ r. ⌜ r ≡ (if eqb width 0 then 0 else numberAt 4 at (now (tail .entry))) ⌝ }
 {
-    if length == 0 {
+    if width == 0 {
         return 0;
     }
     number32(tail, at)
 }
 
-fn rights_in(tail: &[u8], length: usize, at: usize) -> u8
-    ensures { λ r. ⌜ r ≡ (if eqb length 0 then 0 else getD (now (tail .entry)) at 0) ⌝ }
+fn rights_in(tail: &[u8], width: usize, at: usize) -> u8
+    ensures { λ r. ⌜ r ≡ (if eqb width 0 then 0 else getD (now (tail .entry)) at 0) ⌝ }
 {
-    if length == 0 {
+    if width == 0 {
         return 0;
     }
     if tail.len() <= at {

@@ -6,9 +6,10 @@ use lib.Dec.{ltb}
 use lib.ListN.{length}
 use Rattle.words.specs.declared.realm.Realm.{Realm}
 use Rattle.evaluate.specs.Asking.{inGroup}
+use Rattle.evaluate.specs.Evaluation.{unlessTooMany}
 use Rattle.evaluate.specs.declared.asking.Caller.{Caller}
 use Rattle.evaluate.specs.declared.asking.File.{File}
-use Rattle.evaluate.proofs.Alike.{alike as lists-alike}
+use Rattle.evaluate.proofs.Alike.{gives-alike}
 use Rattle.rights.specs.Mode.{classRights, modeRights}
 use Rattle.rights.specs.Deciding.{byMode, byGuard, decided}
 use Rattle.rights.specs.declared.guard.Guard.{Guard}
@@ -28,10 +29,10 @@ module _ (realm : Realm) (user group group′ : ℕ) (groups groups′ : List �
 
     guard-same : (guard : Guard) (list : List ℕ) → byGuard guard list groups caller file ≡ byGuard guard list groups′ caller′ file
     unfolding byGuard
-    guard-same ByList list = lists-alike realm user group group′ groups groups′ same file list
+    guard-same ByList list = gives-alike realm user group group′ groups groups′ same file list
     guard-same (Mode local mode) list = mode-same local mode
 
     pub alike : (list : List ℕ) (guard : Guard) → ltb 32 (length groups) ≡ ltb 32 (length groups′)
         → decided list groups caller file guard ≡ decided list groups′ caller′ file guard
-    unfolding decided
+    unfolding decided unlessTooMany
     alike list guard q = rw (q, guard-same guard list)

@@ -1,23 +1,16 @@
 -- The deciding record lies within the list. Assumes nothing.
 use mathlib.Core.List.{List}
-use mathlib.Core.Bool.{Bool, true, false}
 use Prim.Native.Nat.{ℕ, _+_, _≤_}
 use lib.Dec.{ltb}
 use lib.ListN.{length}
-use Rattle.words.specs.Test.{if_then_else_}
 use Rattle.words.specs.Realm.{unknownRealm, sameRealm}
 use Rattle.words.specs.declared.realm.Realm.{Realm}
-use Rattle.evaluate.specs.Evaluation.{Decided}
 use Rattle.evaluate.specs.declared.asking.Caller.{Caller}
 use Rattle.evaluate.specs.declared.asking.File.{File}
-use Rattle.evaluate.proofs.Inside.{Fits, bare-fits, evaluation-fits}
+use Rattle.evaluate.proofs.Inside.{Fits, bare-fits, either-fits, counted-fits, gives-fits}
 use Rattle.rights.specs.Deciding.{byMode, byGuard, decided}
 use Rattle.rights.specs.declared.guard.Guard.{Guard}
 use Rattle.rights.specs.declared.guard.Guard.the-variants.{List as ByList, Mode}
-
-either-fits : (n : ℕ) (b : Bool) (d e : Decided) → Fits n d → Fits n e → Fits n (if b then d else e)
-either-fits n true d e h k = h
-either-fits n false d e h k = k
 
 module _ (list groups : List ℕ) (caller : Caller) (file : File) where
   mode-fits : (local : Realm) (mode : ℕ) → Fits (length list) (byMode groups caller file local mode)
@@ -28,9 +21,9 @@ module _ (list groups : List ℕ) (caller : Caller) (file : File) where
 
   guard-fits : (guard : Guard) → Fits (length list) (byGuard guard list groups caller file)
   unfolding byGuard
-  guard-fits ByList = evaluation-fits list groups caller file
+  guard-fits ByList = gives-fits list groups caller file
   guard-fits (Mode local mode) = mode-fits local mode
 
   pub decided-fits : (guard : Guard) → decided list groups caller file guard .start + decided list groups caller file guard .size ≤ length list
   unfolding decided Fits
-  decided-fits guard = either-fits (length list) (ltb 32 (length groups)) _ _ (bare-fits (length list) _) (guard-fits guard)
+  decided-fits guard = counted-fits (length list) groups (byGuard guard list groups caller file) (guard-fits guard)

@@ -4,13 +4,12 @@ use mathlib.Core.List.{List, [], _∷_}
 use Prim.Native.Nat.{ℕ, _+_}
 use denote.Ref.{RefT, now, ptr}
 use lib.Dec.{ltb}
-use lib.ListN.{length}
 use Rattle.words.specs.Test.{if_then_else_}
 use Rattle.words.specs.Said.{Said, done, refused}
 use Rattle.words.specs.Number.{part}
 use Rattle.words.specs.Realm.{unknownRealm, sameRealm}
 use Rattle.words.specs.declared.realm.Realm.{Realm}
-use Rattle.evaluate.specs.Evaluation.{Decided, bare, evaluation}
+use Rattle.evaluate.specs.Evaluation.{Decided, bare, unlessTooMany, listGives}
 use Rattle.evaluate.specs.declared.asking.Caller.{Caller}
 use Rattle.evaluate.specs.declared.asking.File.{File}
 use Rattle.rights.specs.Mode.{modeRights}
@@ -29,14 +28,12 @@ byMode groups caller file local mode =
     bare (done (modeRights groups caller file local mode ∷ []))
 
 unfoldable pub byGuard : Guard → List ℕ → List ℕ → Caller → File → Decided
-byGuard ByList list groups caller file = evaluation list groups caller file
+byGuard ByList list groups caller file = listGives list groups caller file
 byGuard (Mode realm mode) list groups caller file = byMode groups caller file realm mode
 
 -- 23 comes before the guard is looked at
 unfoldable pub decided : List ℕ → List ℕ → Caller → File → Guard → Decided
-decided list groups caller file guard =
-    if ltb 32 (length groups) then bare (refused 23 []) else
-    byGuard guard list groups caller file
+decided list groups caller file guard = unlessTooMany groups (byGuard guard list groups caller file)
 
 -- what each answer says by 01's numbers
 unfoldable pub answerSays : Answer → Said

@@ -9,14 +9,13 @@ use crate::refusal::TOO_MANY_GROUPS;
 use evaluate::Caller;
 use evaluate::Evaluated;
 use evaluate::File;
+use evaluate::MOST_GROUPS;
 use evaluate::evaluate;
 use list::refusal::FORBIDDEN_REALM;
 use words::Realm;
 use words::is_unknown;
-ghost use Rattle.evaluate.specs.Evaluation.{evaluation};
+ghost use Rattle.evaluate.specs.Evaluation.{unlessTooMany, evaluation};
 ghost use Rattle.rights.specs.Deciding.{byMode, decided, Finds};
-
-const MOST_GROUPS: usize = 32;
 
 const HIGHEST_MODE: u32 = 511;
 
@@ -33,7 +32,8 @@ fn by_list(list: &[u8], groups: &[u32], caller: Caller, file: File) -> Found
             start: start,
             size: size,
         },
-        Evaluated::Refused { number, place } => without_record(Answer::RefusedAt {
+        Evaluated::Refused { number } => without_record(Answer::Refused { number: number }),
+        Evaluated::RefusedAt { number, place } => without_record(Answer::RefusedAt {
             number: number,
             place: place,
         }),
@@ -41,8 +41,13 @@ fn by_list(list: &[u8], groups: &[u32], caller: Caller, file: File) -> Found
 }
 
 fn by_mode(groups: &[u32], caller: Caller, file: File, local: Realm, mode: u32) -> Found
-    ensures { λ r. ⌜ Finds (byMode (now (groups .entry)) caller file local mode) r ⌝ }
+    ensures { λ r. ⌜ Finds (unlessTooMany (now (groups .entry)) (byMode (now (groups .entry)) caller file local mode)) r ⌝ }
 {
+    if MOST_GROUPS < groups.len() {
+        return without_record(Answer::Refused {
+            number: TOO_MANY_GROUPS,
+        });
+    }
     if is_unknown(local) {
         return without_record(Answer::RefusedAt {
             number: FORBIDDEN_REALM,
@@ -61,11 +66,6 @@ fn by_mode(groups: &[u32], caller: Caller, file: File, local: Realm, mode: u32) 
 pub fn decide(list: &[u8], groups: &[u32], caller: Caller, file: File, guard: Guard) -> Found
     ensures { λ r. ⌜ Finds (decided (now (list .entry)) (now (groups .entry)) caller file guard) r ⌝ }
 {
-    if MOST_GROUPS < groups.len() {
-        return without_record(Answer::Refused {
-            number: TOO_MANY_GROUPS,
-        });
-    }
     match guard {
         Guard::List => by_list(list, groups, caller, file),
         Guard::Mode { realm, mode } => by_mode(groups, caller, file, realm, mode),

@@ -3,14 +3,18 @@ use mathlib.Core.Path.{_≡_, refl, sym, _∙_}
 use mathlib.Core.Bool.{Bool}
 use mathlib.Core.List.{List, [], _∷_}
 use Prim.Native.Nat.{ℕ}
+use lib.Dec.{eqb}
+use lib.ListN.{getD}
+use Rattle.words.specs.Test.{if_then_else_}
 use Rattle.words.specs.Said.{Said, done, refused}
 use Rattle.words.proofs.Determined.{same-answer}
-use Rattle.table.specs.Layout.{ReadsSlot}
+use Rattle.table.specs.Layout.{slotOf, slotSays, ReadsSlot}
 use Rattle.table.specs.Form.{TellsLength, TellsOpening, TellsSlot, TellsForm}
 use Rattle.table.specs.Reply.{replySays}
 use Rattle.table.specs.declared.reply.Reply.{Reply}
 use Rattle.table.specs.declared.reply.Reply.the-variants.{Done, Value, Refused, RefusedWith}
 use Rattle.table.specs.declared.slot.Slot.{Slot}
+use Rattle.table.specs.declared.slot.Slot.the-variants.{Free, Held}
 
 -- a reply by what it says
 unfoldable replyOf : Said → Reply
@@ -41,5 +45,31 @@ is-slot-determined slot top next r r′ p q = p .answer ∙ sym (q .answer)
 pub well-formed-determined : (bytes : List ℕ) (r r′ : Bool) → TellsForm bytes r → TellsForm bytes r′ → r ≡ r′
 well-formed-determined bytes r r′ p q = p .answer ∙ sym (q .answer)
 
+-- a slot by its values
+unfoldable slotWith : List ℕ → Slot
+slotWith values =
+    if eqb (getD values 0 0) 0 then Free else
+    Held (getD values 7 0) (record {
+      types = getD values 1 0;
+      host = getD values 2 0;
+      file = record { hi = getD values 3 0; lo = getD values 4 0 };
+      first = getD values 5 0;
+      last = getD values 6 0;
+    })
+
+-- the slot that says what was said
+unfoldable saying : Said → Slot
+saying (done values) = slotWith values
+saying (refused number values) = Free
+
+saying-of : (r : Slot) → saying (slotSays r) ≡ r
+unfolding saying slotWith slotSays
+saying-of Free = refl
+saying-of (Held number claim) = refl
+
 pub read-slot-determined : (slot : List ℕ) (r r′ : Slot) → ReadsSlot slot r → ReadsSlot slot r′ → r ≡ r′
-read-slot-determined slot r r′ p q = p .answer ∙ sym (q .answer)
+read-slot-determined slot r r′ p q = same-answer slotSays saying saying-of r r′ (p .answer) (q .answer)
+
+-- so a slot is what its bytes mean
+pub slot-is : {slot : List ℕ} {r : Slot} → ReadsSlot slot r → r ≡ slotOf slot
+slot-is {slot = slot} {r = r} p = read-slot-determined slot r (slotOf slot) p (record { answer = refl })

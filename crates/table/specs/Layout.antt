@@ -5,6 +5,7 @@ use Prim.Native.Nat.{ℕ, zero, suc, _-_, _/_, _^_, _<_}
 use lib.Dec.{eqb}
 use lib.ListN.{length, getD, take, drop, replicate}
 use Rattle.words.specs.Test.{if_then_else_}
+use Rattle.words.specs.Said.{Said, done}
 use Rattle.words.specs.Number.{numberAt}
 use Rattle.words.specs.Writing.{digits, written}
 use Rattle.claims.specs.declared.claim.FileId.{FileId}
@@ -89,9 +90,15 @@ joined (piece ∷ pieces) = piece ++ joined pieces
 unfoldable pub bytesOf : Table → List ℕ
 bytesOf t = headerBytes (t .next) ++ joined (map slotBytes (t .slots))
 
+-- what each slot says: its kind, and of a token its fields in their order
+unfoldable pub slotSays : Slot → Said
+slotSays Free = done (0 ∷ [])
+slotSays (Held number claim) =
+    done (1 ∷ claim .types ∷ claim .host ∷ claim .file .hi ∷ claim .file .lo ∷ claim .first ∷ claim .last ∷ number ∷ [])
+
 -- reading a slot
 pub record ReadsSlot (slot : List ℕ) (r : Slot) : Type 0 where
-  pub answer : r ≡ slotOf slot
+  pub answer : slotSays r ≡ slotSays (slotOf slot)
 
 -- writing a slot
 pub record WritesSlot (value : Slot) (slot after : List ℕ) : Type 0 where

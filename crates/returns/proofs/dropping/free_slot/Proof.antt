@@ -5,6 +5,7 @@ use Rattle.words.proofs.Digits.{lent-part}
 use Rattle.table.specs.Layout.{width, slotOf}
 use Rattle.table.specs.declared.slot.Slot.the-variants.{Free}
 use Rattle.table.proofs.Lent.{lent-written}
+use Rattle.table.proofs.Determined.{slot-is}
 use Rattle.returns.proofs.Freed.{not-freed, freed-one}
 use Rattle.returns.proofs.dropping.free_slot.Statement.{statement}
 use Rattle.returns.proofs.dropping.free_slot.Tie as tie
@@ -20,11 +21,11 @@ free-slot-spec =
     (λ c κs. search needs)
     (λ c κs. search needs)
     (λ c. search needs)
-    (λ c. not-freed (c .before .before .before .before .before .before .args .table .now) (c .before .before .before .before .before .before .args .at) (c .before .before .before .before .before .before .args .host) (c .before .before .read-slot .ensures .answer ∙ ap slotOf (lent-part (c .before .before .before .before .before .before .args .at) width (c .before .before .before .before .before .before .args .table .now))) (c .before .is-hosts .ensures) (not-true (c .before .is-hosts .result) (c .if1 .taken)))
+    (λ c. not-freed (c .before .before .before .before .before .before .args .table .now) (c .before .before .before .before .before .before .args .at) (c .before .before .before .before .before .before .args .host) (slot-is (c .before .before .read-slot .ensures) ∙ ap slotOf (lent-part (c .before .before .before .before .before .before .args .at) width (c .before .before .before .before .before .before .args .table .now))) (c .before .is-hosts .ensures) (not-true (c .before .is-hosts .result) (c .if1 .taken)))
     (λ c. search needs)
     (λ c. search needs)
     (λ c. search needs)
     (λ c. search needs)
     (λ c κs. search needs)
     (λ c. search needs)
-    (λ c. freed-one (c .before .before .before .before .before .before .before .before .before .before .args .table .now) (c .before .before .before .before .before .before .before .before .before .before .args .at) (c .before .before .before .before .before .before .before .before .before .before .args .host) (c .before .before .before .before .before .before .read-slot .ensures .answer ∙ ap slotOf (lent-part (c .before .before .before .before .before .before .before .before .before .before .args .at) width (c .before .before .before .before .before .before .before .before .before .before .args .table .now))) (c .before .before .before .before .before .is-hosts .ensures) (not-false (c .before .before .before .before .before .is-hosts .result) (c .before .before .before .before .if1 .left)) (lent-written (c .before .before .before .before .before .before .before .before .before .before .args .at) (c .before .before .before .before .before .before .before .before .before .before .args .table .now) (c .before .before .before .before .before .before .before .before .before .before .pre) Free _ (c .before .before .write-slot .ensures .slot-after))))
+    (λ c. freed-one (c .before .before .before .before .before .before .before .before .before .before .args .table .now) (c .before .before .before .before .before .before .before .before .before .before .args .at) (c .before .before .before .before .before .before .before .before .before .before .args .host) (slot-is (c .before .before .before .before .before .before .read-slot .ensures) ∙ ap slotOf (lent-part (c .before .before .before .before .before .before .before .before .before .before .args .at) width (c .before .before .before .before .before .before .before .before .before .before .args .table .now))) (c .before .before .before .before .before .is-hosts .ensures) (not-false (c .before .before .before .before .before .is-hosts .result) (c .before .before .before .before .if1 .left)) (lent-written (c .before .before .before .before .before .before .before .before .before .before .args .at) (c .before .before .before .before .before .before .before .before .before .before .args .table .now) (c .before .before .before .before .before .before .before .before .before .before .pre) Free _ (c .before .before .write-slot .ensures .slot-after))))

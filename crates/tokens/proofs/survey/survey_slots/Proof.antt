@@ -7,6 +7,7 @@ use Rattle.words.proofs.Digits.{lent-part}
 use Rattle.table.specs.Layout.{width, slotOf}
 use Rattle.table.specs.Form.{isSlot}
 use Rattle.table.proofs.Cuts.{sized}
+use Rattle.table.proofs.Determined.{slot-is}
 use Rattle.tokens.proofs.Surveyed.{Looked, none-looked, few-conflicts, one-looked, ill-looked, all-looked}
 use Rattle.tokens.proofs.survey.survey_slots.Statement.{statement}
 use Rattle.tokens.proofs.survey.survey_slots.Tie as tie
@@ -37,5 +38,5 @@ survey-slots-spec =
     (λ c κs. few-conflicts (c .before .before .before .before .before .before .before .args .table .now) (c .before .before .before .before .before .before .before .args .claim) (c .before .before .before .before .before .before .before .args .limit) (c .before .before .before .before .before .before .before .args .next) (c .before .before .before .before .before .loop .i) (c .before .before .before .before .before .loop .seen) (c .before .before .before .before .before .loop .inv))
     (λ c. let w = c .before .before .before .before .before .before .loop .inv .checked .size .whole in let f = c .before .before .before .before .before .before .loop .inv .checked .size .few in let t = c .before .before .before .before .before .loop-test .taken in omega arith)
     (λ c. let w = c .before .before .before .before .before .before .loop .inv .checked .size .whole in let f = c .before .before .before .before .before .before .loop .inv .checked .size .few in let t = c .before .before .before .before .before .loop-test .taken in omega arith)
-    (λ c. one-looked (c .before .before .before .before .before .before .before .before .args .table .now) (c .before .before .before .before .before .before .before .before .args .claim) (c .before .before .before .before .before .before .before .before .args .limit) (c .before .before .before .before .before .before .before .before .args .next) (c .before .before .before .before .before .before .loop .i) (c .before .before .before .before .before .before .loop .seen) (c .before .before .before .before .before .before .loop .inv) (c .before .before .before .before .before .loop-test .taken) (c .before .before .before .is-slot .ensures .answer ∙ ap (isSlot (c .before .before .before .before .before .before .before .before .args .limit) (c .before .before .before .before .before .before .before .before .args .next)) (lent-part (width * (c .before .before .before .before .before .before .loop .i + 1)) width (c .before .before .before .before .before .before .before .before .args .table .now))) (not-false (c .before .before .before .is-slot .result) (c .before .before .if1 .left)) (c .before .read-slot .ensures .answer ∙ ap slotOf (lent-part (width * (c .before .before .before .before .before .before .loop .i + 1)) width (c .before .before .before .before .before .before .before .before .args .table .now))) (c .pass .ensures))
+    (λ c. one-looked (c .before .before .before .before .before .before .before .before .args .table .now) (c .before .before .before .before .before .before .before .before .args .claim) (c .before .before .before .before .before .before .before .before .args .limit) (c .before .before .before .before .before .before .before .before .args .next) (c .before .before .before .before .before .before .loop .i) (c .before .before .before .before .before .before .loop .seen) (c .before .before .before .before .before .before .loop .inv) (c .before .before .before .before .before .loop-test .taken) (c .before .before .before .is-slot .ensures .answer ∙ ap (isSlot (c .before .before .before .before .before .before .before .before .args .limit) (c .before .before .before .before .before .before .before .before .args .next)) (lent-part (width * (c .before .before .before .before .before .before .loop .i + 1)) width (c .before .before .before .before .before .before .before .before .args .table .now))) (not-false (c .before .before .before .is-slot .result) (c .before .before .if1 .left)) (slot-is (c .before .read-slot .ensures) ∙ ap slotOf (lent-part (width * (c .before .before .before .before .before .before .loop .i + 1)) width (c .before .before .before .before .before .before .before .before .args .table .now))) (c .pass .ensures))
     (λ c. all-looked (c .before .before .before .args .table .now) (c .before .before .before .args .claim) (c .before .before .before .args .limit) (c .before .before .before .args .next) (c .before .loop .i) (c .before .loop .seen) (c .before .loop .inv) (c .loop-test .left)))

@@ -2,6 +2,7 @@ use mathlib.Core.Path.{sym, _∙_}
 use native.Mathlib.Omega.{arith}
 use borrow.Author.Needs.{needs}
 use Rattle.records.specs.Reading.{whenWhole}
+use Rattle.records.proofs.Determined.{read-is}
 use Rattle.records.proofs.Tails.{is, within-tail, unplaced}
 use Rattle.list.specs.Fault.{fault}
 use Rattle.list.specs.Walking.{heard, refusedOr}
@@ -18,8 +19,8 @@ hear-spec =
     (λ c. search needs)
     (λ c. search needs)
     (λ c. search needs)
-    (λ c κs. let q = sym (c .before .before .before .read-record .ensures .answer) ∙ c .before .r .given .1 in (omega (arith, within-tail (c .before .before .before .before .before .args .tail .now) (c .before .r .given .0 .0) q), unplaced (c .before .before .before .before .before .args .tail .now) (c .before .r .given .0 .0) (is (c .before .before .before .before .before .args .tail .now) (c .before .r .given .0 .0) q)))
-    (λ c. simp (← c .before .before .read-record .ensures .answer, c .enum-told .given .1))
-    (λ c. simp (← c .before .before .read-record .ensures .answer, c .enum-told2 .given .1))
-    (λ c. simp (← c .before .before .read-record .ensures .answer, c .enum-told3 .given .1))
-    (λ c. simp (← c .before .before .before .before .read-record .ensures .answer, c .before .before .r .given .1, c .take .ensures)))
+    (λ c κs. let q = sym (read-is (c .before .before .before .read-record .ensures)) ∙ c .before .r .given .1 in (omega (arith, within-tail (c .before .before .before .before .before .args .tail .now) (c .before .r .given .0 .0) q), unplaced (c .before .before .before .before .before .args .tail .now) (c .before .r .given .0 .0) (is (c .before .before .before .before .before .args .tail .now) (c .before .r .given .0 .0) q)))
+    (λ c. simp (← read-is (c .before .before .read-record .ensures), c .enum-told .given .1))
+    (λ c. simp (← read-is (c .before .before .read-record .ensures), c .enum-told2 .given .1))
+    (λ c. simp (← read-is (c .before .before .read-record .ensures), c .enum-told3 .given .1))
+    (λ c. simp (← read-is (c .before .before .before .before .read-record .ensures), c .before .before .r .given .1, c .take .ensures)))
