@@ -10,13 +10,13 @@ use Rattle.list.specs.Day.{realmR, realmS, listE, starred as listsStarred}
 use Rattle.evaluate.specs.declared.asking.File.{File}
 use Rattle.rights.specs.Day.{caller, theFile, theDirectory, starred as rightsStarred}
 use Rattle.rights.specs.declared.guard.Guard.the-variants.{List as ByList, Mode}
-use Rattle.claims.specs.Rule.{conflict}
 use Rattle.claims.specs.declared.claim.Claim.{Claim}
 use Rattle.table.specs.Layout.{tableOf}
 use Rattle.table.specs.Call.{saysOf, leftOf}
 use Rattle.table.specs.Day.{claim, empty, one, two, back, three}
 use Rattle.tokens.specs.Grant.{granted}
 use Rattle.tokens.specs.Ask.{listFor}
+use Rattle.tokens.specs.Day.{status}
 use Rattle.access.specs.Needs.{needed}
 use Rattle.access.specs.Access.{Access, accessOf, accessSays}
 use Rattle.desk.specs.Grant.{grantSays}
@@ -66,8 +66,12 @@ starred =
     -- host 3 asks data read 99 to 100: the whole list
     ∷ line (asks owner 13 (claim 3 1 99 100) two) (done (1 ∷ []))
     ∷ line (lists owner 13 (claim 3 1 99 100) two) (done (3 ∷ 0 ∷ 0 ∷ 0 ∷ 0 ∷ 0 ∷ 0 ∷ 0 ∷ 1 ∷ 0 ∷ 1 ∷ 0 ∷ 2 ∷ []))
-    -- status write 5 to 5 against another host's status read 900 to 900
-    ∷ line (done (conflict (claim 2 4 900 900) (claim 1 8 5 5) ∷ [])) (done (4 ∷ []))
+    -- host 2 is granted status read 900 to 900; host 1's status write 5 to 5 against it: the whole list, and 32
+    ∷ line (grants owner (claim 2 4 900 900) empty) (done (1 ∷ []))
+    ∷ line (done (after owner (claim 2 4 900 900) empty)) (done status)
+    ∷ line (asks owner 13 (claim 1 8 5 5) status) (done (1 ∷ []))
+    ∷ line (lists owner 13 (claim 1 8 5 5) status) (done (3 ∷ 0 ∷ 0 ∷ 0 ∷ 0 ∷ 0 ∷ 0 ∷ 0 ∷ 1 ∷ 0 ∷ 2 ∷ 0 ∷ 4 ∷ []))
+    ∷ line (grants owner (claim 1 8 5 5) status) (refused 32 [])
     ∷ []
 
 unfoldable pub others : List Line

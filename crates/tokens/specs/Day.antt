@@ -8,7 +8,7 @@ use Rattle.claims.specs.Rule.{conflict}
 use Rattle.claims.specs.declared.claim.Claim.{Claim}
 use Rattle.table.specs.Layout.{tableOf}
 use Rattle.table.specs.Call.{saysOf, leftOf}
-use Rattle.table.specs.Day.{claim, header, slot, free, empty, one, two, back, three}
+use Rattle.table.specs.Day.{claim, eight, header, free, empty, one, two, back, three}
 use Rattle.tokens.specs.Grant.{grantSays, granted}
 use Rattle.tokens.specs.Ask.{listFor, askSays}
 
@@ -26,14 +26,23 @@ asks c = saysOf (askSays c (replicate 13 255))
 unfoldable pub lists : Claim → List ℕ → Said
 lists c bytes = done (left (asks c bytes) (listFor c (tableOf bytes)) (replicate 13 255))
 
+-- host 2's status read 900 to 900 alone, byte by byte: 900 is 3 times 256 and 132
+unfoldable pub far : List ℕ
+far = 0 ∷ 0 ∷ 0 ∷ 0 ∷ 0 ∷ 0 ∷ 3 ∷ 132 ∷ []
+
+unfoldable pub status : List ℕ
+status = header 2 ++ ((1 ∷ 0 ∷ 4 ∷ 0 ∷ 2 ∷ []) ++ (eight 7 ++ (0 ∷ 0 ∷ 0 ∷ 9 ∷ [])) ++ (far ++ (far ++ eight 1))) ++ free
+
 unfoldable pub starred : List Line
 starred =
     line (grants (claim 2 1 100 199) one) (done (2 ∷ []))
     ∷ line (asks (claim 2 1 100 199) one) (done (0 ∷ []))
     ∷ line (asks (claim 3 1 99 100) two) (done (1 ∷ []))
     ∷ line (lists (claim 3 1 99 100) two) (done (3 ∷ 0 ∷ 0 ∷ 0 ∷ 0 ∷ 0 ∷ 0 ∷ 0 ∷ 1 ∷ 0 ∷ 1 ∷ 0 ∷ 2 ∷ []))
-    ∷ line (done (conflict (claim 2 4 900 900) (claim 1 8 5 5) ∷ [])) (done (4 ∷ []))
-    ∷ line (grants (claim 1 8 5 5) (header 2 ++ slot 4 2 90 90 1 ++ free)) (refused 32 [])
+    ∷ line (done (after (claim 2 4 900 900) empty)) (done status)
+    ∷ line (asks (claim 1 8 5 5) status) (done (1 ∷ []))
+    ∷ line (lists (claim 1 8 5 5) status) (done (3 ∷ 0 ∷ 0 ∷ 0 ∷ 0 ∷ 0 ∷ 0 ∷ 0 ∷ 1 ∷ 0 ∷ 2 ∷ 0 ∷ 4 ∷ []))
+    ∷ line (grants (claim 1 8 5 5) status) (refused 32 [])
     ∷ []
 
 unfoldable pub others : List Line
