@@ -123,15 +123,15 @@ pub demand2 : Demand2
 demand2 bytes r = let s = reached-stands bytes r in rw (s .spelled) (of-table (s .table) (s .sound))
 
 -- the bytes after returns, and the answers, are those of the table
-run-returns : (turns : List Turn) (t : Table) → Sound t → (now : List ℕ) → Returned turns (bytesOf t) now → (now ≡ bytesOf (giveAll turns t)) × Answered turns t
+run-returns : (turns : List Turn) (t : Table) → Sound t → (present : List ℕ) → Returned turns (bytesOf t) present → (present ≡ bytesOf (giveAll turns t)) × Answered turns t
 unfolding Returned giveAll Answered give
-run-returns [] t s now r = (r, tt)
-run-returns (turn ∷ turns) t s now r =
+run-returns [] t s present r = (r, tt)
+run-returns (turn ∷ turns) t s present r =
     let g = turn .given in
     let o = s .order in
     let by = left-there (returnSays (g .host) (g .number) (g .types)) t o (returned (g .host) (g .number) (g .types)) (λ values e. return-order t o (g .host) (g .number) (g .types) .1) in
     let between : r .0 ≡ bytesOf (give g t) = r .1 .table-after ∙ by in
-    let later = run-returns turns (give g t) (give-sound g t s) now (rw between at (r .2)) in
+    let later = run-returns turns (give g t) (give-sound g t s) present (rw between at (r .2)) in
     (later .0, (r .1 .answer ∙ says-there (returnSays (g .host) (g .number) (g .types)) t o, later .1))
 
 -- what an ask that is done tells: the request is well formed, and how many tokens are in its way
@@ -156,16 +156,16 @@ served-as claim access t shaped permitted = rw (shaped, permitted) refl
 
 module _ (t : Table) (s : Sound t) (claim : Claim) (shaped : malformed claim (limit t) ≡ false) where
   -- what the request made again comes to, on the table
-  record Comes (turns : List Turn) (now : List ℕ) (said : Said) : Type 0 where
+  record Comes (turns : List Turn) (present : List ℕ) (said : Said) : Type 0 where
     pub answers : Answered turns t
-    pub table : tableOf now ≡ giveAll turns t
+    pub table : tableOf present ≡ giveAll turns t
     pub says : said ≡ serveSays claim (giveAll turns t)
 
-  comes : (turns : List Turn) (now : List ℕ) (said : Said) → Again (bytesOf t) claim turns now said → Comes turns now said
-  comes turns now said a =
+  comes : (turns : List Turn) (present : List ℕ) (said : Said) → Again (bytesOf t) claim turns present said → Comes turns present said
+  comes turns present said a =
       let u = giveAll turns t in
       let o = all-sound turns t s .order in
-      let r = run-returns turns t s now (a .returned) in
+      let r = run-returns turns t s present (a .returned) in
       let fine : malformed claim (limit u) ≡ false = rw (all-limit turns t) shaped in
       let spoken : replySays (a .reply) ≡ grantSays claim (a .access) u = rw (r .0) at (a .grant .answer) ∙ says-there (grantSays claim (a .access)) u o in
       record {
@@ -174,26 +174,26 @@ module _ (t : Table) (s : Sound t) (claim : Claim) (shaped : malformed claim (li
         says = a .says ∙ spoken ∙ served-as claim (a .access) u fine (a .permitted);
       }
 
-  module _ (turns : List Turn) (now : List ℕ) (said : Said) (a : Again (bytesOf t) claim turns now said) where
-    c : Comes turns now said
-    c = comes turns now said a
+  module _ (turns : List Turn) (present : List ℕ) (said : Said) (a : Again (bytesOf t) claim turns present said) where
+    c : Comes turns present said
+    c = comes turns present said a
 
-    still-held : (said ≡ refused 32 []) ↔ StillHeld (entries claim (t .slots)) now
+    still-held : (said ≡ refused 32 []) ↔ StillHeld (entries claim (t .slots)) present
     still-held = (
       λ e. let w = exactly claim t s turns .0 (sym (c .says) ∙ e) in record { item = w .0; listed = w .1; held = rw (c .table) (w .2) },
       λ h. c .says ∙ exactly claim t s turns .1 (h .item, h .listed, rw (c .table) at (h .held)),
     )
 
-    served : serveSays claim (giveAll turns t) ≡ roomSays (giveAll turns t) → Served now said
+    served : serveSays claim (giveAll turns t) ≡ roomSays (giveAll turns t) → Served present said
     served e = c .says ∙ e ∙ ap roomSays (sym (c .table))
 
-    all-returned : ((x : Item) → Listed (entries claim (t .slots)) x → GivenBack turns x) → Served now said
+    all-returned : ((x : Item) → Listed (entries claim (t .slots)) x → GivenBack turns x) → Served present said
     all-returned all = served (once-returned claim t s turns (c .answers) all)
 
-    split-served : Split (entries claim (t .slots)) (givens turns) → ((turn : Turn) → List·Memᴰ turn turns → turn .reply ≡ Done) × Served now said
+    split-served : Split (entries claim (t .slots)) (givens turns) → ((turn : Turn) → List·Memᴰ turn turns → turn .reply ≡ Done) × Served present said
     split-served p = (none-refused claim t s turns p (c .answers), all-returned (all-given claim t s turns p (c .answers)))
 
-    of-request : LeastThatServes (entries claim (t .slots)) turns now said
+    of-request : LeastThatServes (entries claim (t .slots)) turns present said
     of-request = record {
       exactly = still-held;
       otherwise = λ n. served (otherwise claim (giveAll turns t) (λ e. n (c .says ∙ e)));
@@ -211,16 +211,16 @@ few-in-the-way claim t = those-few (isInTheWay claim) (t .slots)
 -- the list is read off the bytes that an ask which was done wrote
 module _ (t : Table) (s : Sound t) (bytes : List ℕ) (spelled : bytes ≡ bytesOf t) (claim : Claim) (access : Access) (out : List ℕ) where
   of-ask : (count : ℕ) (after : List ℕ) → Asks bytes claim access out (Value count) after
-      → (turns : List Turn) (now : List ℕ) (said : Said) → Again bytes claim turns now said → LeastThatServes (entriesIn count after) turns now said
+      → (turns : List Turn) (present : List ℕ) (said : Said) → Again bytes claim turns present said → LeastThatServes (entriesIn count after) turns present said
   unfolding askSays replySays left
-  of-ask count after a turns now said again =
+  of-ask count after a turns present said again =
       let o = s .order in
       let says : done (count ∷ []) ≡ askSays claim access out t = rw spelled at (a .answer) ∙ says-there (askSays claim access out) t o in
       let told = asked claim out t (accessSays access (claim .types)) count says in
       let rest = drop (length (listFor claim t)) out in
       let written : after ≡ listFor claim t ++ rest = rw (spelled, says-there (askSays claim access out) t o, ← says, table-bytes t o) at (a .out-after) in
       let read : entriesIn count after ≡ entries claim (t .slots) = rw (written, told .1) (read-list claim rest t o) in
-      rw read (of-request t s claim (told .0) turns now said (rw spelled at again))
+      rw read (of-request t s claim (told .0) turns present said (rw spelled at again))
 
 pub demand3 : Demand3
 demand3 bytes r claim access out = let p = reached-stands bytes r in of-ask (p .table) (p .sound) bytes (p .spelled) claim access out

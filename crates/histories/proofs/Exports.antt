@@ -206,11 +206,11 @@ unfolding ReturnedInC Returned
 turns-back [] before after r = r
 turns-back (turn ∷ turns) before after r = (r .0, returns-back (r .1), turns-back turns (r .0) after (r .2))
 
-again-back : (bytes : List ℕ) (claim : Claim) (turns : List TurnInC) (now : List ℕ) (a : Answer) → AgainInC bytes claim turns now a
-    → Again bytes (claimOf claim) (map turnOf turns) now (saidBy ofGrant a)
+again-back : (bytes : List ℕ) (claim : Claim) (turns : List TurnInC) (present : List ℕ) (a : Answer) → AgainInC bytes claim turns present a
+    → Again bytes (claimOf claim) (map turnOf turns) present (saidBy ofGrant a)
 unfolding claimOf
-again-back bytes claim turns now a g = record {
-  returned = turns-back turns bytes now (g .returned);
+again-back bytes claim turns present a g = record {
+  returned = turns-back turns bytes present (g .returned);
   access = g .access;
   permitted = g .permitted;
   reply = replyBy ofGrant a;
@@ -221,9 +221,9 @@ again-back bytes claim turns now a g = record {
 
 pub demand3-in-c : Demand3InC
 unfolding ofAsk shape
-demand3-in-c bytes r claim access out a after q e turns now again g =
-    demand3 bytes (exports-are-calls bytes r) (claimOf claim) access out (a .value) after (rw (← zero-back ofAsk a e) (asks-back q)) (map turnOf turns) now (saidBy ofGrant again)
-    (again-back bytes claim turns now again g)
+demand3-in-c bytes r claim access out a after q e turns present again g =
+    demand3 bytes (exports-are-calls bytes r) (claimOf claim) access out (a .value) after (rw (← zero-back ofAsk a e) (asks-back q)) (map turnOf turns) present (saidBy ofGrant again)
+    (again-back bytes claim turns present again g)
 
 pub ask-is-done-in-c : AskIsDoneInC
 unfolding claimOf answerFor replySays

@@ -83,41 +83,41 @@ pub record NoTwoConflict (bytes : List ℕ) : Type 0 where
   pub audit-yes : (r : Bool) → Audits bytes r → r ≡ true
 
 -- the request made again, after returns and no other call between: what a grant of it says, by an access that permits it
-pub record Again (bytes : List ℕ) (claim : Claim) (turns : List Turn) (now : List ℕ) (said : Said) : Type 0 where
-  pub returned : Returned turns bytes now
+pub record Again (bytes : List ℕ) (claim : Claim) (turns : List Turn) (present : List ℕ) (said : Said) : Type 0 where
+  pub returned : Returned turns bytes present
   pub access : Access
   pub permitted : accessSays access (claim .types) ≡ done []
   pub reply : Reply
   pub after : List ℕ
-  pub grant : Grants now claim access reply after
+  pub grant : Grants present claim access reply after
   pub says : said ≡ replySays reply
 
 -- granted under its number, or refused only for room (33) or spent numbers (34), and that only where they are wanting
 abbrev pub Served : List ℕ → Said → Type 0
-Served now said = said ≡ roomSays (tableOf now)
+Served present said = said ≡ roomSays (tableOf present)
 
 -- a listed type of a listed token is still held
-pub record StillHeld (list : List Entry) (now : List ℕ) : Type 0 where
+pub record StillHeld (list : List Entry) (present : List ℕ) : Type 0 where
   pub item : Item
   pub listed : Listed list item
-  pub held : Holds (tableOf now) item
+  pub held : Holds (tableOf present) item
 
 -- "the list of types to call back is the least that serves": of the request made again after any returns, refused or not
-pub record LeastThatServes (list : List Entry) (turns : List Turn) (now : List ℕ) (said : Said) : Type 0 where
+pub record LeastThatServes (list : List Entry) (turns : List Turn) (present : List ℕ) (said : Said) : Type 0 where
   -- refused for conflict exactly when a listed type is still held, and otherwise served
-  pub exactly : (said ≡ refused 32 []) ↔ StillHeld list now
-  pub otherwise : said ≢ refused 32 [] → Served now said
+  pub exactly : (said ≡ refused 32 []) ↔ StillHeld list present
+  pub otherwise : said ≢ refused 32 [] → Served present said
   -- "once each is returned, in any order, with no other call between, the request is granted or refused only for room or spent numbers"
-  pub once-returned : ((x : Item) → Listed list x → GivenBack turns x) → Served now said
+  pub once-returned : ((x : Item) → Listed list x → GivenBack turns x) → Served present said
   -- "while one is still held, it is refused for conflict"
-  pub while-held : (x : Item) → Listed list x → Holds (tableOf now) x → said ≡ refused 32 []
+  pub while-held : (x : Item) → Listed list x → Holds (tableOf present) x → said ≡ refused 32 []
   -- the least: returns that leave out a listed type do not serve
-  pub least : Served now said → (x : Item) → Listed list x → GivenBack turns x
+  pub least : Served present said → (x : Item) → Listed list x → GivenBack turns x
   -- where the returns are one for each entry, in any order: none of them is refused, and the request is served
   pub in-any-order : (es : List Entry) → Reordered es list → map (λ (turn : Turn). turn .given) turns ≡ map returnOf es
-      → ((turn : Turn) → List·Memᴰ turn turns → turn .reply ≡ Done) × Served now said
+      → ((turn : Turn) → List·Memᴰ turn turns → turn .reply ≡ Done) × Served present said
   -- and so where they are split type by type, or in any other way, in any order and mixed
-  pub split : Split list (map (λ (turn : Turn). turn .given) turns) → ((turn : Turn) → List·Memᴰ turn turns → turn .reply ≡ Done) × Served now said
+  pub split : Split list (map (λ (turn : Turn). turn .given) turns) → ((turn : Turn) → List·Memᴰ turn turns → turn .reply ≡ Done) × Served present said
 
 -- demand 2, of every table that calls reach
 abbrev pub Demand2 : Type 0
@@ -127,8 +127,8 @@ Demand2 = (bytes : List ℕ) → Reached bytes → NoTwoConflict bytes
 abbrev pub Demand3 : Type 0
 Demand3 = (bytes : List ℕ) → Reached bytes
     → (claim : Claim) (access : Access) (out : List ℕ) (count : ℕ) (after : List ℕ) → Asks bytes claim access out (Value count) after
-    → (turns : List Turn) (now : List ℕ) (said : Said) → Again bytes claim turns now said
-    → LeastThatServes (entriesIn count after) turns now said
+    → (turns : List Turn) (present : List ℕ) (said : Said) → Again bytes claim turns present said
+    → LeastThatServes (entriesIn count after) turns present said
 
 -- and there is always a list to speak of: in any well-formed table an ask of a well-formed request that is permitted is done if its buffer has
 -- thirteen bytes for each of the table's slots

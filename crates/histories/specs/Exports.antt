@@ -138,19 +138,19 @@ abbrev pub turnOf : TurnInC → Turn
 turnOf turn = record { given = turn .given; reply = replyBy ofReturn (turn .answer) }
 
 -- the request made again, after returns and no other call between, by an access that permits it
-pub record AgainInC (bytes : List ℕ) (claim : Claim) (turns : List TurnInC) (now : List ℕ) (a : Answer) : Type 0 where
-  pub returned : ReturnedInC turns bytes now
+pub record AgainInC (bytes : List ℕ) (claim : Claim) (turns : List TurnInC) (present : List ℕ) (a : Answer) : Type 0 where
+  pub returned : ReturnedInC turns bytes present
   pub access : Access
   pub permitted : accessSays access (claim .types) ≡ done []
   pub after : List ℕ
-  pub grant : Grants now claim access a after
+  pub grant : Grants present claim access a after
 
 -- demand 3, of every table that exports reach: the list is read off the bytes that an ask wrote which answered 0, as many entries as its value
 abbrev pub Demand3InC : Type 0
 Demand3InC = (bytes : List ℕ) → ReachedInC bytes
     → (claim : Claim) (access : Access) (out : List ℕ) (a : Answer) (after : List ℕ) → Asks bytes claim access out a after → a .refused ≡ 0
-    → (turns : List TurnInC) (now : List ℕ) (again : Answer) → AgainInC bytes claim turns now again
-    → LeastThatServes (entriesIn (a .value) after) (map turnOf turns) now (saidBy ofGrant again)
+    → (turns : List TurnInC) (present : List ℕ) (again : Answer) → AgainInC bytes claim turns present again
+    → LeastThatServes (entriesIn (a .value) after) (map turnOf turns) present (saidBy ofGrant again)
 
 -- in any well-formed table an ask of a well-formed request that is permitted answers 0 if its buffer has thirteen bytes for each of the table's
 -- slots
