@@ -42,6 +42,7 @@ use Rattle.desk.specs.Grant.{grantSays}
 use Rattle.desk.specs.Ask.{askSays, Asks}
 use Rattle.exchange.specs.Answer.{truthSays}
 use Rattle.histories.specs.Shape.{Shape, shape, isAnswer, ofPut, ofDrop, ofFill, ofAsk, ofAskUnjudged, ofGrant, ofGrantUnjudged, ofReturn, ofDropHost, ofAudit}
+use Rattle.histories.specs.History.{RunsBy}
 use Rattle.histories.specs.Callback.{slotAt, Item, entriesIn, Listed, Turn, Returned, GivenBack, Split}
 use Rattle.histories.specs.Demands.{Ends, NoTwoConflict, Again, Served, StillHeld, LeastThatServes, Demand1, Demand2, Demand3, AskIsDone}
 use Rattle.histories.proofs.Answers.{same-value}
@@ -124,7 +125,7 @@ demand2 bytes r = let s = reached-stands bytes r in rw (s .spelled) (of-table (s
 
 -- the bytes after returns, and the answers, are those of the table
 run-returns : (turns : List Turn) (t : Table) → Sound t → (present : List ℕ) → Returned turns (bytesOf t) present → (present ≡ bytesOf (giveAll turns t)) × Answered turns t
-unfolding Returned giveAll Answered give
+unfolding RunsBy giveAll Answered give
 run-returns [] t s present r = (r, tt)
 run-returns (turn ∷ turns) t s present r =
     let g = turn .given in

@@ -39,9 +39,9 @@ use Rattle.mastarik.specs.Lists.{decidedFor}
 use Rattle.mastarik.specs.Tables.{Fills, Asks, Grants, Returns, DropsHost}
 use Rattle.histories.specs.Shape.{Shape, shape, isAnswer, faults, ofCheck, ofRights, ofPut, ofDrop, ofFill, ofAsk, ofGrant, ofReturn, ofDropHost, ofAudit}
 use Rattle.histories.specs.History.{Leaves, RunsBy, Runs, Gives, judged}
-use Rattle.histories.specs.Callback.{Returned}
+use Rattle.histories.specs.Callback.{TurnLeaves, Returned}
 use Rattle.histories.specs.Demands.{Again}
-use Rattle.histories.specs.Exports.{replyBy, saidBy, Typed, Export, fill, ask, grant, giveBack, dropHost, audit, ExportLeaves, ExportRuns, callOf, ExportsAreCalls, Answered, EndsInC, Demand1InC, Demand2InC, TurnInC, ReturnedInC, turnOf, AgainInC, Demand3InC, AskIsDoneInC, GivesInC, NumbersOnceInC}
+use Rattle.histories.specs.Exports.{replyBy, saidBy, Typed, Export, fill, ask, grant, giveBack, dropHost, audit, ExportLeaves, ExportRuns, callOf, ExportsAreCalls, Answered, EndsInC, Demand1InC, Demand2InC, TurnInC, TurnLeavesInC, ReturnedInC, turnOf, AgainInC, Demand3InC, AskIsDoneInC, GivesInC, NumbersOnceInC}
 use Rattle.histories.proofs.Shapes.{at-member, check-answers, decided-answers, put-answers, drop-entry-answers, fill-answers, ask-answers, grant-answers, return-answers, drop-answers}
 use Rattle.histories.proofs.Reaching.{numbers-once}
 use Rattle.histories.proofs.Demands.{audit-answers, demand2, demand3, ask-is-done}
@@ -174,10 +174,19 @@ leaves-back (giveBack given) before after l = (replyBy ofReturn (l .0), returns-
 leaves-back (dropHost host) before after l = (replyBy ofDropHost (l .0), drops-back (l .1))
 leaves-back audit before after l = (l .0, sound before, record { answer = refl })
 
-runs-back : (es : List Export) (before after : List ℕ) → ExportRuns es before after → Runs (map callOf es) before after
+-- calls of one kind one after the other are calls of another, where each of them is
+runs-as : {A B : Type 0} (f : A → B) (leaves : A → List ℕ → List ℕ → Type 0) (leaves′ : B → List ℕ → List ℕ → Type 0)
+    → ((a : A) (before after : List ℕ) → leaves a before after → leaves′ (f a) before after)
+    → (all : List A) (before after : List ℕ) → RunsBy leaves all before after → RunsBy leaves′ (map f all) before after
 unfolding RunsBy
-runs-back [] before after r = r
-runs-back (e ∷ es) before after r = (r .0, leaves-back e before (r .0) (r .1), runs-back es (r .0) after (r .2))
+runs-as f leaves leaves′ each [] before after r = r
+runs-as f leaves leaves′ each (a ∷ all) before after r = (r .0, each a before (r .0) (r .1), runs-as f leaves leaves′ each all (r .0) after (r .2))
+
+runs-back : (es : List Export) (before after : List ℕ) → ExportRuns es before after → Runs (map callOf es) before after
+runs-back = runs-as callOf ExportLeaves Leaves leaves-back
+
+turns-back : (turns : List TurnInC) (before after : List ℕ) → ReturnedInC turns before after → Returned (map turnOf turns) before after
+turns-back = runs-as turnOf TurnLeavesInC TurnLeaves (λ turn before after r. returns-back r)
 
 -- an answer of 0 leads back to what is done
 zero-back : (s : Shape) (a : Answer) → a .refused ≡ 0 → replyBy s a ≡ (if eqb (s .values) 0 then Done else Value (a .value))
@@ -200,11 +209,6 @@ demand2-in-c bytes r =
     let d = demand2 bytes (exports-are-calls bytes r) in
     let yes-says : sound bytes ≡ true = d .audit-yes (sound bytes) (record { answer = refl }) in
     (d, λ a q. (ap (λ (x : Answer). x .refused) (q .answer), ap (λ (x : Answer). x .value) (q .answer) ∙ rw yes-says refl))
-
-turns-back : (turns : List TurnInC) (before after : List ℕ) → ReturnedInC turns before after → Returned (map turnOf turns) before after
-unfolding ReturnedInC Returned
-turns-back [] before after r = r
-turns-back (turn ∷ turns) before after r = (r .0, returns-back (r .1), turns-back turns (r .0) after (r .2))
 
 again-back : (bytes : List ℕ) (claim : Claim) (turns : List TurnInC) (present : List ℕ) (a : Answer) → AgainInC bytes claim turns present a
     → Again bytes (claimOf claim) (map turnOf turns) present (saidBy ofGrant a)

@@ -14,7 +14,7 @@ use Rattle.table.specs.declared.reply.Reply.the-variants.{Done}
 use Rattle.table.specs.declared.slot.Slot.{Slot}
 use Rattle.table.specs.declared.slot.Slot.the-variants.{Free, Held}
 use Rattle.returns.specs.Return.{Returns}
-use Rattle.histories.specs.History.{Return}
+use Rattle.histories.specs.History.{Return, RunsBy}
 
 -- the slot at a place, free past the last
 abbrev pub slotAt : Table → ℕ → Slot
@@ -61,13 +61,13 @@ pub record Turn : Type 0 where
   pub given : Return
   pub reply : Reply
 
+-- the table's bytes before and after a return that was answered so
+abbrev pub TurnLeaves : Turn → List ℕ → List ℕ → Type 0
+TurnLeaves turn before after = Returns before (turn .given .host) (turn .given .number) (turn .given .types) (turn .reply) after
+
 -- returns one after the other and no other call between, refused or not
-unfoldable pub Returned : List Turn → List ℕ → List ℕ → Type 0
-Returned [] before after = after ≡ before
-Returned (turn ∷ turns) before after =
-    (between : List ℕ)
-    × Returns before (turn .given .host) (turn .given .number) (turn .given .types) (turn .reply) between
-    × Returned turns between after
+abbrev pub Returned : List Turn → List ℕ → List ℕ → Type 0
+Returned = RunsBy TurnLeaves
 
 -- a return names the type of the token
 pub record Names (given : Return) (x : Item) : Type 0 where

@@ -1,7 +1,7 @@
 -- The same of the calls for C: a history of exports, each as its own statement says, and the demands read off the bytes and the answers that C has.
 use mathlib.Core.Path.{_≡_}
 use mathlib.Core.Bool.{true, false, not}
-use mathlib.Core.List.{List, [], _∷_, map}
+use mathlib.Core.List.{List, [], map}
 use mathlib.Core.Logic.{_≢_}
 use Prim.Native.Nat.{ℕ, _*_, _^_, _≤_, _<_}
 use lib.Dec.{eqb}
@@ -127,12 +127,11 @@ pub record TurnInC : Type 0 where
   pub given : Return
   pub answer : Answer
 
-unfoldable pub ReturnedInC : List TurnInC → List ℕ → List ℕ → Type 0
-ReturnedInC [] before after = after ≡ before
-ReturnedInC (turn ∷ turns) before after =
-    (between : List ℕ)
-    × Returns before (turn .given .host) (turn .given .number) (turn .given .types) (turn .answer) between
-    × ReturnedInC turns between after
+abbrev pub TurnLeavesInC : TurnInC → List ℕ → List ℕ → Type 0
+TurnLeavesInC turn before after = Returns before (turn .given .host) (turn .given .number) (turn .given .types) (turn .answer) after
+
+abbrev pub ReturnedInC : List TurnInC → List ℕ → List ℕ → Type 0
+ReturnedInC = RunsBy TurnLeavesInC
 
 abbrev pub turnOf : TurnInC → Turn
 turnOf turn = record { given = turn .given; reply = replyBy ofReturn (turn .answer) }
