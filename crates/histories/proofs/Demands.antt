@@ -46,7 +46,7 @@ use Rattle.histories.specs.History.{RunsBy}
 use Rattle.histories.specs.Callback.{slotAt, Item, entriesIn, Listed, Turn, Returned, GivenBack, Split}
 use Rattle.histories.specs.Demands.{Ends, NoTwoConflict, Again, Served, StillHeld, LeastThatServes, Demand1, Demand2, Demand3, AskIsDone}
 use Rattle.histories.proofs.Answers.{same-value}
-use Rattle.histories.proofs.Shapes.{check-answers, evaluation-answers, decided-answers, access-answers, plan-put-answers, plan-drop-answers, put-answers, drop-entry-answers, fill-answers, ask-answers, ask-unjudged-answers, grant-answers, grant-unjudged-answers, return-answers, drop-answers}
+use Rattle.histories.proofs.Shapes.{check-answers, read-refuses, step-refuses, evaluation-answers, decided-answers, access-answers, plan-put-answers, plan-drop-answers, put-answers, drop-entry-answers, fill-answers, ask-answers, ask-unjudged-answers, grant-answers, grant-unjudged-answers, return-answers, drop-answers}
 use Rattle.histories.proofs.Soundness.{Sound}
 use Rattle.histories.proofs.Spelling.{says-there, left-there}
 use Rattle.histories.proofs.Giving.{says, give, give-sound}
@@ -73,6 +73,8 @@ pub demand1 : Demand1
 unfolding planSays
 demand1 = record {
   check = λ list r c. rw (c .answer) (check-answers list);
+  read-record = λ tail r p. read-refuses r;
+  step = λ walk list r p. rw (p .answer) (step-refuses walk list);
   evaluate = λ list groups caller file r e. rw (e .answer) (evaluation-answers list groups caller file);
   decide = λ list groups caller file guard r f. rw (f .answer) (decided-answers list groups caller file guard);
   rights = λ list groups caller file guard r d. rw (d .answer) (decided-answers (now list) groups caller file guard);

@@ -5,8 +5,8 @@ use mathlib.Core.List.{List, [], _∷_}
 use Prim.Native.Nat.{ℕ}
 use borrow.Author.Tests.{eqb-true}
 use lib.Bits.{bitAnd}
-use lib.Dec.{eqb, ltb}
-use lib.ListN.{length, getD}
+use lib.Dec.{eqb, ltb, leb}
+use lib.ListN.{length, getD, drop}
 use Rattle.words.specs.Test.{if_then_else_, anyOf, allOf}
 use Rattle.words.specs.Said.{Said, done, refused, andThen}
 use Rattle.words.specs.Realm.{unknownRealm, sameRealm, realmAt}
@@ -14,6 +14,11 @@ use Rattle.words.specs.declared.realm.Realm.{Realm}
 use Rattle.words.proofs.Tests.{differ, and-left, and-right}
 use Rattle.records.specs.Standing.{rises, isForbidden}
 use Rattle.list.specs.Fault.{begins, noRecord, fault, Seen, endFault}
+use Rattle.records.specs.Reading.{readOf, whenWhole, readSays}
+use Rattle.list.specs.Walking.{seenOf, walkAfter, refusedOr, heard, stepOf, stepSays}
+use Rattle.list.specs.declared.walk.Step.{Step}
+use Rattle.list.specs.declared.walk.Step.the-variants.{Next, Refused, End}
+use Rattle.list.specs.declared.walk.Walk.{Walk}
 use Rattle.list.specs.Checking.{Found, cut, records, refusedAt, passed, faultsAfter, seenIn, checkSays}
 use Rattle.records.specs.declared.records.Record.{Record}
 use Rattle.records.specs.declared.records.Read.{Read}
@@ -47,12 +52,7 @@ use Rattle.access.specs.Needs.{needed}
 use Rattle.desk.specs.Order.{judgedSays}
 use Rattle.desk.specs.Grant.{grantSays}
 use Rattle.desk.specs.Ask.{askSays}
-use Rattle.histories.specs.Shape.{Shape, shape, isAnswer, faults, ofCheck, ofEvaluate, ofRights, ofJudge, ofPlanPut, ofPlanDrop, ofPut, ofDrop, ofFill, ofAsk, ofAskUnjudged, ofGrant, ofGrantUnjudged, ofReturn, ofDropHost}
-
--- what is said, if it is refused, is a refusal of the shape
-unfoldable refuses : Shape → Said → Bool
-refuses s (done values) = true
-refuses s (refused number values) = isAnswer s (refused number values)
+use Rattle.histories.specs.Shape.{Shape, shape, isAnswer, refuses, faults, ofCheck, ofEvaluate, ofRights, ofJudge, ofPlanPut, ofPlanDrop, ofPut, ofDrop, ofFill, ofAsk, ofAskUnjudged, ofGrant, ofGrantUnjudged, ofReturn, ofDropHost}
 
 answers-refuse : (s : Shape) (said : Said) → isAnswer s said ≡ true → refuses s said ≡ true
 unfolding refuses
@@ -141,6 +141,44 @@ check-answers list =
     either-way ofCheck (ltb 4096 (length list)) (refused 10 (0 ∷ [])) _ refl
     (either-way ofCheck (not (begins list)) (refused 11 (0 ∷ [])) _ refl
     (one-after ofCheck _ _ (answers-refuse ofCheck _ (faults-answer (realmAt 1 list) noRecord (cut list))) (end-answers (length list) (seenIn (records list)))))
+
+-- a record read, and a step of the walk
+pub read-refuses : (r : Read) → refuses ofCheck (readSays r) ≡ true
+unfolding readSays refuses isAnswer ofCheck shape faults anyOf
+read-refuses Nothing = refl
+read-refuses Unknown = refl
+read-refuses Short = refl
+read-refuses (Whole r) = refl
+
+refused-or : (number place : ℕ) (step : Step) → isAnswer ofCheck (refusedAt place number) ≡ true → refuses ofCheck (stepSays step) ≡ true
+    → refuses ofCheck (stepSays (refusedOr number place step)) ≡ true
+unfolding refusedOr refusedAt stepSays refuses
+refused-or number place step p q = go (eqb number 0) p
+  where
+    go : (b : Bool) → isAnswer ofCheck (if b then done [] else refused number (place ∷ [])) ≡ true → refuses ofCheck (stepSays (if b then step else Refused number place)) ≡ true
+    go true z = q
+    go false z = z
+
+met : (walk : Walk) (read : Read) → refuses ofCheck (stepSays (whenWhole read (λ r. Next r (walkAfter walk r)) End)) ≡ true
+unfolding whenWhole stepSays refuses
+met walk Nothing = refl
+met walk Unknown = refl
+met walk Short = refl
+met walk (Whole r) = refl
+
+pub step-refuses : (walk : Walk) (list : List ℕ) → refuses ofCheck (stepSays (stepOf walk list)) ≡ true
+unfolding stepOf heard stepSays refuses isAnswer ofCheck shape faults anyOf
+step-refuses walk list = go (ltb 4096 (length list)) (eqb (walk .at) 0 && not (begins list)) (leb (length list) (walk .at))
+  where
+    go : (a b c : Bool)
+        → refuses ofCheck (stepSays (if a then Refused 10 0 else if b then Refused 11 0 else
+        if c then refusedOr (endFault (seenOf (walk .marks))) (length list) End else heard walk (readOf (drop (walk .at) list)))) ≡ true
+    go true b c = refl
+    go false true c = refl
+    go false false true = refused-or (endFault (seenOf (walk .marks))) (length list) End (end-answers (length list) (seenOf (walk .marks))) refl
+    go false false false =
+        let read = readOf (drop (walk .at) list) in
+        refused-or (fault (walk .home) (walk .earlier) read) (walk .at) _ (fault-answers (walk .home) (walk .earlier) (walk .at) read) (met walk read)
 
 -- the check's refusals are among those of each call that is lent a list
 check-refuses : (s : Shape) → within ofCheck s ≡ true → (list : List ℕ) → refuses s (checkSays list) ≡ true

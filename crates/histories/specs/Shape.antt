@@ -1,5 +1,5 @@
 -- What each call can answer: so many values where it is done, and these refusals of 01's table.
-use mathlib.Core.Bool.{Bool, false}
+use mathlib.Core.Bool.{Bool, true, false}
 use mathlib.Core.List.{List, [], _∷_, _++_}
 use Prim.Native.Nat.{ℕ}
 use lib.Dec.{eqb}
@@ -21,6 +21,11 @@ isAnswer s (done values) = eqb (length values) (s .values)
 isAnswer s (refused number []) = anyOf (eqb number) (s .plain)
 isAnswer s (refused number (value ∷ [])) = anyOf (eqb number) (s .valued)
 isAnswer s (refused number (value ∷ other ∷ more)) = false
+
+-- what is said, if it is refused, is a refusal of the shape
+unfoldable pub refuses : Shape → Said → Bool
+refuses s (done values) = true
+refuses s (refused number values) = isAnswer s (refused number values)
 
 -- a list's own
 unfoldable pub faults : List ℕ
