@@ -54,6 +54,7 @@ use Rattle.histories.proofs.Turns.{giveAll, Answered, all-sound, all-li
 use Rattle.histories.proofs.Entries.{entries, read-list}
 use Rattle.histories.proofs.Serving.{exactly, otherwise, once-returned, least}
 use Rattle.histories.proofs.Planning.{givens, none-refused, all-given, whole-split}
+use Rattle.histories.proofs.Singles.{singly-split}
 use Rattle.histories.proofs.Reaching.{reached-stands}
 
 -- a call that is lent a buffer ends as it says
@@ -204,6 +205,7 @@ module _ (t : Table) (s : Sound t) (claim : Claim) (shaped : malformed claim (li
       while-held = λ x l h. still-held .1 (record { item = x; listed = l; held = h });
       least = λ e. least claim t s turns (c .answers) (sym (c .says) ∙ e ∙ ap roomSays (c .table));
       in-any-order = λ es order are. split-served (rw are (whole-split claim t s es order));
+      type-by-type = λ xs singly are. split-served (rw are (singly-split (entries claim (t .slots)) xs singly));
       split = split-served;
     }
 

@@ -9,6 +9,7 @@ pub mod Entries
 pub mod Serving
 pub mod Reorders
 pub mod Planning
+pub mod Singles
 pub mod Reaching
 pub mod Demands
 pub mod Exports

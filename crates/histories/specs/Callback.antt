@@ -3,7 +3,7 @@ use mathlib.Core.Path.{_≡_}
 use mathlib.Core.Bool.{true}
 use mathlib.Core.List.{List, [], _∷_, _++_, List·Memᴰ}
 use mathlib.Core.Logic.{_≢_}
-use Prim.Native.Nat.{ℕ, zero, suc}
+use Prim.Native.Nat.{ℕ, zero, suc, _^_}
 use lib.ListN.{getD, take, drop}
 use Rattle.words.specs.Bit.{bit}
 use Rattle.words.specs.Number.{numberAt}
@@ -103,3 +103,18 @@ pub record Split (list : List Entry) (gs : List Return) : Type 0 where
   pub listed : (g : Return) → List·Memᴰ g gs → (x : Item) → Names g x → Listed list x
   pub none-twice : NoneTwice gs
   pub all : (x : Item) → Listed list x → (g : Return) × List·Memᴰ g gs × Names g x
+
+-- the return of one type of a token
+abbrev pub returnOne : Item → Return
+returnOne x = record { host = x .host; number = x .number; types = 2 ^ x .type }
+
+-- no type of a token stands twice
+unfoldable pub NoRepeat : List Item → Type 0
+NoRepeat [] = Unit {0}
+NoRepeat (x ∷ xs) = (List·Memᴰ x xs → ⊥) × NoRepeat xs
+
+-- what a list names, type by type, in any order and mixed
+pub record Singly (list : List Entry) (xs : List Item) : Type 0 where
+  pub listed : (x : Item) → List·Memᴰ x xs → Listed list x
+  pub all : (x : Item) → Listed list x → List·Memᴰ x xs
+  pub once : NoRepeat xs

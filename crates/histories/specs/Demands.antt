@@ -49,7 +49,7 @@ use Rattle.desk.specs.Ask.{Asks}
 use Rattle.exchange.specs.Answer.{truthSays}
 use Rattle.histories.specs.Shape.{Shape, isAnswer, refuses, ofCheck, ofEvaluate, ofRights, ofJudge, ofPlanPut, ofPlanDrop, ofPut, ofDrop, ofFill, ofAsk, ofAskUnjudged, ofGrant, ofGrantUnjudged, ofReturn, ofDropHost, ofAudit}
 use Rattle.histories.specs.History.{Call, isFill, Runs, Reached, Gives}
-use Rattle.histories.specs.Callback.{slotAt, Item, Holds, Entry, entriesIn, Listed, Turn, Returned, GivenBack, returnOf, Reordered, Split}
+use Rattle.histories.specs.Callback.{slotAt, Item, Holds, Entry, entriesIn, Listed, Turn, Returned, GivenBack, returnOf, Reordered, Split, returnOne, Singly}
 
 -- "every call ends with an answer or a numbered refusal of 01's table, and a refusal leaves every lent byte as it was": of a call that is lent
 -- a buffer to change
@@ -124,7 +124,10 @@ pub record LeastThatServes (list : List Entry) (turns : List Turn) (present : Li
   -- where the returns are one for each entry, in any order: none of them is refused, and the request is served
   pub in-any-order : (es : List Entry) → Reordered es list → map (λ (turn : Turn). turn .given) turns ≡ map returnOf es
       → ((turn : Turn) → List·Memᴰ turn turns → turn .reply ≡ Done) × Served present said
-  -- and so where they are split type by type, or in any other way, in any order and mixed
+  -- and so where the returns are one for each type of each entry, in any order and mixed
+  pub type-by-type : (xs : List Item) → Singly list xs → map (λ (turn : Turn). turn .given) turns ≡ map returnOne xs
+      → ((turn : Turn) → List·Memᴰ turn turns → turn .reply ≡ Done) × Served present said
+  -- and however else they are split
   pub split : Split list (map (λ (turn : Turn). turn .given) turns) → ((turn : Turn) → List·Memᴰ turn turns → turn .reply ≡ Done) × Served present said
 
 -- demand 2, of every table that calls reach
