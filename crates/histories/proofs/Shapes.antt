@@ -52,7 +52,7 @@ use Rattle.access.specs.Needs.{needed}
 use Rattle.desk.specs.Order.{judgedSays}
 use Rattle.desk.specs.Grant.{grantSays}
 use Rattle.desk.specs.Ask.{askSays}
-use Rattle.histories.specs.Shape.{Shape, shape, isAnswer, refuses, faults, ofCheck, ofEvaluate, ofRights, ofJudge, ofPlanPut, ofPlanDrop, ofPut, ofDrop, ofFill, ofAsk, ofAskUnjudged, ofGrant, ofGrantUnjudged, ofReturn, ofDropHost}
+use Rattle.histories.specs.Shape.{Shape, shape, isAnswer, refuses, faults, ofRead, ofStep, ofCheck, ofEvaluate, ofRights, ofJudge, ofPlanPut, ofPlanDrop, ofPut, ofDrop, ofFill, ofAsk, ofAskUnjudged, ofGrant, ofGrantUnjudged, ofReturn, ofDropHost}
 
 answers-refuse : (s : Shape) (said : Said) → isAnswer s said ≡ true → refuses s said ≡ true
 unfolding refuses
@@ -143,35 +143,35 @@ check-answers list =
     (one-after ofCheck _ _ (answers-refuse ofCheck _ (faults-answer (realmAt 1 list) noRecord (cut list))) (end-answers (length list) (seenIn (records list)))))
 
 -- a record read, and a step of the walk
-pub read-refuses : (r : Read) → refuses ofCheck (readSays r) ≡ true
-unfolding readSays refuses isAnswer ofCheck shape faults anyOf
+pub read-refuses : (r : Read) → refuses ofRead (readSays r) ≡ true
+unfolding readSays refuses isAnswer ofRead shape anyOf
 read-refuses Nothing = refl
 read-refuses Unknown = refl
 read-refuses Short = refl
 read-refuses (Whole r) = refl
 
-refused-or : (number place : ℕ) (step : Step) → isAnswer ofCheck (refusedAt place number) ≡ true → refuses ofCheck (stepSays step) ≡ true
-    → refuses ofCheck (stepSays (refusedOr number place step)) ≡ true
-unfolding refusedOr refusedAt stepSays refuses
+refused-or : (number place : ℕ) (step : Step) → isAnswer ofCheck (refusedAt place number) ≡ true → refuses ofStep (stepSays step) ≡ true
+    → refuses ofStep (stepSays (refusedOr number place step)) ≡ true
+unfolding refusedOr refusedAt stepSays refuses within ofCheck ofStep shape faults anyOf allOf
 refused-or number place step p q = go (eqb number 0) p
   where
-    go : (b : Bool) → isAnswer ofCheck (if b then done [] else refused number (place ∷ [])) ≡ true → refuses ofCheck (stepSays (if b then step else Refused number place)) ≡ true
+    go : (b : Bool) → isAnswer ofCheck (if b then done [] else refused number (place ∷ [])) ≡ true → refuses ofStep (stepSays (if b then step else Refused number place)) ≡ true
     go true z = q
-    go false z = z
+    go false z = wider ofCheck ofStep refl (refused number (place ∷ [])) z
 
-met : (walk : Walk) (read : Read) → refuses ofCheck (stepSays (whenWhole read (λ r. Next r (walkAfter walk r)) End)) ≡ true
+met : (walk : Walk) (read : Read) → refuses ofStep (stepSays (whenWhole read (λ r. Next r (walkAfter walk r)) End)) ≡ true
 unfolding whenWhole stepSays refuses
 met walk Nothing = refl
 met walk Unknown = refl
 met walk Short = refl
 met walk (Whole r) = refl
 
-pub step-refuses : (walk : Walk) (list : List ℕ) → refuses ofCheck (stepSays (stepOf walk list)) ≡ true
-unfolding stepOf heard stepSays refuses isAnswer ofCheck shape faults anyOf
+pub step-refuses : (walk : Walk) (list : List ℕ) → refuses ofStep (stepSays (stepOf walk list)) ≡ true
+unfolding stepOf heard stepSays refuses isAnswer ofStep shape faults anyOf
 step-refuses walk list = go (ltb 4096 (length list)) (eqb (walk .at) 0 && not (begins list)) (leb (length list) (walk .at))
   where
     go : (a b c : Bool)
-        → refuses ofCheck (stepSays (if a then Refused 10 0 else if b then Refused 11 0 else
+        → refuses ofStep (stepSays (if a then Refused 10 0 else if b then Refused 11 0 else
         if c then refusedOr (endFault (seenOf (walk .marks))) (length list) End else heard walk (readOf (drop (walk .at) list)))) ≡ true
     go true b c = refl
     go false true c = refl

@@ -47,7 +47,7 @@ use Rattle.access.specs.Access.{Access, accessSays, Judges}
 use Rattle.desk.specs.Grant.{Grants}
 use Rattle.desk.specs.Ask.{Asks}
 use Rattle.exchange.specs.Answer.{truthSays}
-use Rattle.histories.specs.Shape.{Shape, isAnswer, refuses, ofCheck, ofEvaluate, ofRights, ofJudge, ofPlanPut, ofPlanDrop, ofPut, ofDrop, ofFill, ofAsk, ofAskUnjudged, ofGrant, ofGrantUnjudged, ofReturn, ofDropHost, ofAudit}
+use Rattle.histories.specs.Shape.{Shape, isAnswer, refuses, ofRead, ofStep, ofCheck, ofEvaluate, ofRights, ofJudge, ofPlanPut, ofPlanDrop, ofPut, ofDrop, ofFill, ofAsk, ofAskUnjudged, ofGrant, ofGrantUnjudged, ofReturn, ofDropHost, ofAudit}
 use Rattle.histories.specs.History.{Call, isFill, Runs, Reached, Gives}
 use Rattle.histories.specs.Callback.{slotAt, Item, Holds, Entry, entriesIn, Listed, Turn, Returned, GivenBack, returnOf, Reordered, Split, returnOne, Singly}
 
@@ -57,12 +57,11 @@ pub record Ends (s : Shape) (said : Said) (before after : List ℕ) : Type 0 whe
   pub answers : isAnswer s said ≡ true
   pub unchanged : isDone said ≡ false → after ≡ before
 
--- demand 1, of every call by its own statement; those that are lent bytes only to read can change none. A record read and a step of the walk
--- answer with what they met, or refuse as the check does
+-- demand 1, of every call by its own statement; those that are lent bytes only to read can change none
 pub record Demand1 : Type 0 where
   pub check : (list : List ℕ) (r : Verdict) → Checks list r → isAnswer ofCheck (verdictSays r) ≡ true
-  pub read-record : (tail : List ℕ) (r : Read) → ReadsRecord tail r → refuses ofCheck (readSays r) ≡ true
-  pub step : (walk : Walk) (list : List ℕ) (r : Step) → Steps walk list r → refuses ofCheck (stepSays r) ≡ true
+  pub read-record : (tail : List ℕ) (r : Read) → ReadsRecord tail r → refuses ofRead (readSays r) ≡ true
+  pub step : (walk : Walk) (list : List ℕ) (r : Step) → Steps walk list r → refuses ofStep (stepSays r) ≡ true
   pub evaluate : (list groups : List ℕ) (caller : Caller) (file : File) (r : Evaluated) → Evaluates list groups caller file r → isAnswer ofEvaluate (evaluatedAs r .says) ≡ true
   pub decide : (list groups : List ℕ) (caller : Caller) (file : File) (guard : Guard) (r : Found) → Finds (decided list groups caller file guard) r
       → isAnswer ofRights (answerSays (r .answer)) ≡ true

@@ -31,6 +31,13 @@ refuses s (refused number values) = isAnswer s (refused number values)
 unfoldable pub faults : List ℕ
 faults = 10 ∷ 11 ∷ 12 ∷ 13 ∷ 14 ∷ 15 ∷ 16 ∷ 17 ∷ 18 ∷ 19 ∷ []
 
+-- a record read, with its six values, and a step of the walk, with those of the record and of the walk after it; at the end they have none
+unfoldable pub ofRead : Shape
+ofRead = shape 6 [] (12 ∷ 13 ∷ [])
+
+unfoldable pub ofStep : Shape
+ofStep = shape 16 [] faults
+
 -- the check; what a list gives a caller; rights, by a list or a mode; access judged
 unfoldable pub ofCheck : Shape
 ofCheck = shape 0 [] faults
