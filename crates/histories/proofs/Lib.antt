@@ -12,4 +12,5 @@ pub mod Planning
 pub mod Singles
 pub mod Reaching
 pub mod Demands
+pub mod Shutting
 pub mod Exports

@@ -30,7 +30,7 @@ use Rattle.histories.proofs.Giving.{within}
 use Rattle.histories.proofs.Turns.{giveAll, Answered, KeptTable, all-kept, was, one-token, given-gone, lost-given}
 use Rattle.histories.proofs.Entries.{entryOf, entries, source, entry-in}
 
-room-not-conflict : (t : Table) → roomSays t ≢ refused 32 []
+pub room-not-conflict : (t : Table) → roomSays t ≢ refused 32 []
 unfolding roomSays
 room-not-conflict t e = go (anyOf isFree (t .slots)) (eqb (t .next) lastNumber) e
   where
