@@ -172,8 +172,8 @@ mastarik_answer mastarik_ask(const uint8_t *table, size_t table_length, mastarik
                              size_t list_length, const uint32_t *groups, size_t group_count, mastarik_caller caller,
                              mastarik_file file, uint8_t *out, size_t out_length);
 
-/* Grants a token: value is its number. Rights are judged now: a later edit of the list takes no token back. Refused
- * with 30, 31, 23, 10 to 19, 22, 24, 32, 33, 34. */
+/* Grants a token: value is its number, which no other token had since the fill. Rights are judged now: a later edit of
+ * the list takes no token back. Refused with 30, 31, 23, 10 to 19, 22, 24, 32, 33, 34. */
 mastarik_answer mastarik_grant(uint8_t *table, size_t table_length, mastarik_claim claim, const uint8_t *list,
                                size_t list_length, const uint32_t *groups, size_t group_count, mastarik_caller caller,
                                mastarik_file file);
