@@ -1,7 +1,7 @@
 -- The customer's demands hold of every table that calls reach. Assumes nothing.
 use mathlib.Core.Path.{_≡_, refl, sym, _∙_, ap}
 use mathlib.Core.Bool.{Bool, true, false}
-use mathlib.Core.List.{List, [], _∷_, _++_, List·Memᴰ}
+use mathlib.Core.List.{List, [], _∷_, _++_}
 use mathlib.Core.Logic.{_↔_}
 use Prim.Native.Nat.{ℕ, _≤_, _<_}
 use native.Mathlib.Decide.{ℕ-discrete}
@@ -24,7 +24,7 @@ use Rattle.table.specs.Table.{Table, limit}
 use Rattle.table.specs.Layout.{tableOf, bytesOf}
 use Rattle.table.specs.Reply.{replySays}
 use Rattle.table.specs.Call.{saysOf, leftOf}
-use Rattle.table.specs.declared.reply.Reply.the-variants.{Done, Value}
+use Rattle.table.specs.declared.reply.Reply.the-variants.{Value}
 use Rattle.table.specs.declared.slot.Slot.the-variants.{Held}
 use Rattle.table.proofs.Calls.{says-well}
 use Rattle.table.proofs.Determined.{same-reply}
@@ -43,25 +43,25 @@ use Rattle.desk.specs.Ask.{askSays, Asks}
 use Rattle.exchange.specs.Answer.{truthSays}
 use Rattle.histories.specs.Shape.{Shape, shape, isAnswer, ofPut, ofDrop, ofFill, ofAsk, ofAskUnjudged, ofGrant, ofGrantUnjudged, ofReturn, ofDropHost, ofAudit}
 use Rattle.histories.specs.History.{RunsBy}
-use Rattle.histories.specs.Callback.{slotAt, Item, entriesIn, Listed, Turn, Returned, GivenBack, Split}
-use Rattle.histories.specs.Demands.{Ends, NoTwoConflict, Again, Served, StillHeld, LeastThatServes, Demand1, Demand2, Demand3, AskIsDone}
+use Rattle.histories.specs.Callback.{slotAt, Item, entriesIn, Listed, Turn, givens, Returned, GivenBack, Split}
+use Rattle.histories.specs.Demands.{Ends, NoTwoConflict, Again, Served, AllDone, StillHeld, LeastThatServes, Demand1, Demand2, Demand3, AskIsDone}
 use Rattle.histories.proofs.Answers.{same-value}
-use Rattle.histories.proofs.Shapes.{check-answers, read-refuses, step-refuses, evaluation-answers, decided-answers, access-answers, plan-put-answers, plan-drop-answers, put-answers, drop-entry-answers, fill-answers, ask-answers, ask-unjudged-answers, grant-answers, grant-unjudged-answers, return-answers, drop-answers}
+use Rattle.histories.proofs.Shapes.{check-answers, read-answers, step-answers, evaluation-answers, decided-answers, access-answers, plan-put-answers, plan-drop-answers, put-answers, drop-entry-answers, fill-answers, ask-answers, ask-unjudged-answers, grant-answers, grant-unjudged-answers, return-answers, drop-answers}
 use Rattle.histories.proofs.Soundness.{Sound}
 use Rattle.histories.proofs.Spelling.{says-there, left-there}
 use Rattle.histories.proofs.Giving.{says, give, give-sound}
 use Rattle.histories.proofs.Turns.{giveAll, Answered, all-sound, all-limit, same-claim}
 use Rattle.histories.proofs.Entries.{entries, read-list}
 use Rattle.histories.proofs.Serving.{exactly, otherwise, once-returned, least}
-use Rattle.histories.proofs.Planning.{givens, none-refused, all-given, whole-split}
+use Rattle.histories.proofs.Planning.{none-refused, all-given, whole-split}
 use Rattle.histories.proofs.Singles.{singly-split}
 use Rattle.histories.proofs.Reaching.{reached-stands}
 
 -- a call that is lent a buffer ends as it says
-ends : {spoken : Said} (s : Shape) (said : Said) (new old after : List ℕ) → spoken ≡ said → isAnswer s said ≡ true → after ≡ left said new old → Ends s spoken old after
+pub ends : {spoken : Said} (s : Shape) (said : Said) (new old after : List ℕ) → spoken ≡ said → isAnswer s said ≡ true → after ≡ left said new old → Ends s spoken old after
 ends s said new old after p a e = record { answers = rw p a; unchanged = λ f. e ∙ left-kept said new old (rw (← p) f) }
 
-table-ends : {spoken : Said} (s : Shape) (says : Table → Said) (changed : Table → Table) (bytes after : List ℕ) → spoken ≡ saysOf says bytes
+pub table-ends : {spoken : Said} (s : Shape) (says : Table → Said) (changed : Table → Table) (bytes after : List ℕ) → spoken ≡ saysOf says bytes
     → isAnswer s (saysOf says bytes) ≡ true → after ≡ leftOf says changed bytes → Ends s spoken bytes after
 unfolding leftOf
 table-ends s says changed bytes after p a e = ends s (saysOf says bytes) (bytesOf (changed (tableOf bytes))) bytes after p a e
@@ -74,8 +74,8 @@ pub demand1 : Demand1
 unfolding planSays
 demand1 = record {
   check = λ list r c. rw (c .answer) (check-answers list);
-  read-record = λ tail r p. read-refuses r;
-  step = λ walk list r p. rw (p .answer) (step-refuses walk list);
+  read-record = λ tail r p. read-answers r;
+  step = λ walk list r p. rw (p .answer) (step-answers walk list);
   evaluate = λ list groups caller file r e. rw (e .answer) (evaluation-answers list groups caller file);
   decide = λ list groups caller file guard r f. rw (f .answer) (decided-answers list groups caller file guard);
   rights = λ list groups caller file guard r d. rw (d .answer) (decided-answers (now list) groups caller file guard);
@@ -194,7 +194,7 @@ module _ (t : Table) (s : Sound t) (claim : Claim) (shaped : malformed claim (li
     all-returned : ((x : Item) → Listed (entries claim (t .slots)) x → GivenBack turns x) → Served present said
     all-returned all = served (once-returned claim t s turns (c .answers) all)
 
-    split-served : Split (entries claim (t .slots)) (givens turns) → ((turn : Turn) → List·Memᴰ turn turns → turn .reply ≡ Done) × Served present said
+    split-served : Split (entries claim (t .slots)) (givens turns) → AllDone turns present said
     split-served p = (none-refused claim t s turns p (c .answers), all-returned (all-given claim t s turns p (c .answers)))
 
     of-request : LeastThatServes (entries claim (t .slots)) turns present said

@@ -9,24 +9,18 @@ use borrow.Author.Tests.{eqb-true, eq-eqb, leb-true, not-true}
 use lib.Dec.{eqb, leb}
 use lib.ListN.{length}
 use Rattle.words.specs.Test.{if_then_else_, anyOf, allOf}
-use Rattle.words.specs.Said.{Said, done, refused, isDone, left}
+use Rattle.words.specs.Said.{Said, done, refused, isDone}
 use Rattle.words.proofs.Tests.{differ, and-left, and-right}
-use Rattle.words.proofs.Left.{left-kept}
 use Rattle.words.proofs.Written.{number-fits}
 use Rattle.list.specs.Checking.{checkSays}
-use Rattle.entry.specs.NewList.{putting, dropping}
-use Rattle.edit.specs.Editing.{putSays, dropSays as dropEntrySays}
-use Rattle.table.specs.Table.{Table}
-use Rattle.table.specs.Layout.{Fits, count, tableOf, bytesOf}
+use Rattle.table.specs.Layout.{Fits}
 use Rattle.table.specs.Reply.{replySays}
-use Rattle.table.specs.Fill.{filled, fillSays, Fills as FillsTable}
-use Rattle.table.specs.Call.{saysOf, leftOf}
+use Rattle.table.specs.Fill.{fillSays, Fills as FillsTable}
+use Rattle.table.specs.Call.{saysOf}
 use Rattle.table.specs.declared.reply.Reply.{Reply}
 use Rattle.table.specs.declared.reply.Reply.the-variants.{Done, Value}
-use Rattle.tokens.specs.Grant.{granted}
-use Rattle.tokens.specs.Ask.{listFor}
 use Rattle.returns.specs.Return.{returnSays, returned, Returns as ReturnsTypes}
-use Rattle.returns.specs.DropHost.{dropSays, dropped, Drops as DropsTable}
+use Rattle.returns.specs.DropHost.{dropSays, Drops as DropsTable}
 use Rattle.audit.specs.Audit.{sound}
 use Rattle.access.specs.Access.{Access}
 use Rattle.desk.specs.Grant.{grantSays, Grants as GrantsToken}
@@ -40,11 +34,11 @@ use Rattle.mastarik.specs.Tables.{Fills, Asks, Grants, Returns, DropsHost}
 use Rattle.histories.specs.Shape.{Shape, shape, isAnswer, faults, ofCheck, ofRights, ofPut, ofDrop, ofFill, ofAsk, ofGrant, ofReturn, ofDropHost, ofAudit}
 use Rattle.histories.specs.History.{Leaves, RunsBy, Runs, Gives, judged}
 use Rattle.histories.specs.Callback.{TurnLeaves, Returned}
-use Rattle.histories.specs.Demands.{Again}
+use Rattle.histories.specs.Demands.{Ends, Again}
 use Rattle.histories.specs.Exports.{replyBy, saidBy, Typed, Export, fill, ask, grant, giveBack, dropHost, audit, ExportLeaves, ExportRuns, callOf, ExportsAreCalls, Answered, EndsInC, Demand1InC, Demand2InC, TurnInC, TurnLeavesInC, ReturnedInC, turnOf, AgainInC, Demand3InC, AskIsDoneInC, GivesInC, NumbersOnceInC}
 use Rattle.histories.proofs.Shapes.{at-member, check-answers, decided-answers, put-answers, drop-entry-answers, fill-answers, ask-answers, grant-answers, return-answers, drop-answers}
 use Rattle.histories.proofs.Reaching.{numbers-once}
-use Rattle.histories.proofs.Demands.{audit-answers, demand2, demand3, ask-is-done}
+use Rattle.histories.proofs.Demands.{ends, table-ends, audit-answers, demand2, demand3, ask-is-done}
 
 -- one value at most; no refusal's number is 0, and none goes both with a value and without
 unfoldable proper : Shape → Bool
@@ -95,18 +89,12 @@ not-refused (done values) n = absurd (n refl)
 not-refused (refused number values) n = refl
 
 -- of a call that is lent a buffer to change
-module _ (s : Shape) (p : proper s ≡ true) {a : Answer} where
-  ends : (said : Said) (new old after : List ℕ) → a ≡ answerOf said → isAnswer s said ≡ true → after ≡ left said new old → EndsInC s a old after
-  unfolding answerOf
-  ends said new old after told e z = record {
-    answered = answered s p said 0 0 told e;
-    unchanged = λ n. z ∙ left-kept said new old (not-refused said (λ q. n (ap (λ (x : Answer). x .refused) told ∙ q)));
-  }
-
-  table-ends : (says : Table → Said) (changed : Table → Table) (bytes after : List ℕ) → a ≡ answerOf (saysOf says bytes) → isAnswer s (saysOf says bytes) ≡ true
-      → after ≡ leftOf says changed bytes → EndsInC s a bytes after
-  unfolding leftOf
-  table-ends says changed bytes after told e z = ends (saysOf says bytes) (bytesOf (changed (tableOf bytes))) bytes after told e z
+in-c : (s : Shape) → proper s ≡ true → {a : Answer} (said : Said) {before after : List ℕ} → a ≡ answerOf said → Ends s said before after → EndsInC s a before after
+unfolding answerOf
+in-c s p said told d = record {
+  answered = answered s p said 0 0 told (d .answers);
+  unchanged = λ n. d .unchanged (not-refused said (λ q. n (ap (λ (x : Answer). x .refused) told ∙ q)));
+}
 
 pub demand1-in-c : Demand1InC
 unfolding answerOf proper shape faults anyOf allOf ofCheck ofRights ofAudit ofPut ofDrop ofFill ofAsk ofGrant ofReturn ofDropHost decidedFor
@@ -114,17 +102,13 @@ demand1-in-c = record {
   check = λ list a c. answered ofCheck refl (checkSays list) 0 0 (c .answer) (check-answers list);
   rights = λ list groups caller file a g. answered ofRights refl _ _ _ (g .answer) (decided-answers list groups (callerOf caller) (fileOf file) (guardOf file));
   audit = λ bytes a d. answered ofAudit refl (truthSays (sound bytes)) 0 0 (d .answer) (audit-answers (sound bytes));
-  put = λ list out after entry a q. ends ofPut refl (putSays list (entryOf entry) out) (putting list (entryOf entry)) out after (q .answer) (put-answers list (entryOf entry) out) (q .out-after);
-  drop-entry = λ list out after entry a q.
-      ends ofDrop refl (dropEntrySays list (entryOf entry) out) (dropping list (entryOf entry)) out after (q .answer) (drop-entry-answers list (entryOf entry) out) (q .out-after);
-  fill = λ bytes after a f. ends ofFill refl (fillSays bytes) (bytesOf (filled (count bytes))) bytes after (f .answer) (fill-answers bytes) (f .table-after);
-  ask = λ bytes out after claim access a q.
-      ends ofAsk refl (saysOf (askSays (claimOf claim) access out) bytes) (listFor (claimOf claim) (tableOf bytes)) out after (q .answer) (ask-answers (claimOf claim) access out bytes) (q .out-after);
-  grant = λ bytes after claim access a g.
-      table-ends ofGrant refl (grantSays (claimOf claim) access) (granted (claimOf claim)) bytes after (g .answer) (grant-answers (claimOf claim) access bytes) (g .table-after);
-  give-back = λ bytes after host number types a g.
-      table-ends ofReturn refl (returnSays host number types) (returned host number types) bytes after (g .answer) (return-answers host number types bytes) (g .table-after);
-  drop-host = λ bytes after host a d. table-ends ofDropHost refl (dropSays host) (dropped host) bytes after (d .answer) (drop-answers host bytes) (d .table-after);
+  put = λ list out after entry a q. in-c ofPut refl _ (q .answer) (ends ofPut _ _ out after refl (put-answers list (entryOf entry) out) (q .out-after));
+  drop-entry = λ list out after entry a q. in-c ofDrop refl _ (q .answer) (ends ofDrop _ _ out after refl (drop-entry-answers list (entryOf entry) out) (q .out-after));
+  fill = λ bytes after a f. in-c ofFill refl _ (f .answer) (ends ofFill _ _ bytes after refl (fill-answers bytes) (f .table-after));
+  ask = λ bytes out after claim access a q. in-c ofAsk refl _ (q .answer) (ends ofAsk _ _ out after refl (ask-answers (claimOf claim) access out bytes) (q .out-after));
+  grant = λ bytes after claim access a g. in-c ofGrant refl _ (g .answer) (table-ends ofGrant _ _ bytes after refl (grant-answers (claimOf claim) access bytes) (g .table-after));
+  give-back = λ bytes after host number types a g. in-c ofReturn refl _ (g .answer) (table-ends ofReturn _ _ bytes after refl (return-answers host number types bytes) (g .table-after));
+  drop-host = λ bytes after host a d. in-c ofDropHost refl _ (d .answer) (table-ends ofDropHost _ _ bytes after refl (drop-answers host bytes) (d .table-after));
 }
 
 -- each export's statement is its call's, with the reply that the answer leads back to

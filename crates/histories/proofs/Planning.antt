@@ -30,7 +30,7 @@ use Rattle.returns.specs.Return.{isOf, typesIn, placeIn, tokenIn, returnSays}
 use Rattle.audit.specs.Audit.{apart}
 use Rattle.audit.proofs.Exactly.{tokens-apart}
 use Rattle.histories.specs.History.{Return}
-use Rattle.histories.specs.Callback.{slotAt, Item, Holds, Entry, Listed, Turn, Names, GivenBack, returnOf, Reordered, NoneTwice, Split}
+use Rattle.histories.specs.Callback.{slotAt, Item, Holds, Entry, Listed, Turn, givens, Names, GivenBack, returnOf, Reordered, NoneTwice, Split}
 use Rattle.histories.proofs.Places.{any-at, there}
 use Rattle.histories.proofs.Soundness.{Sound, free-harmless}
 use Rattle.histories.proofs.Giving.{says, give, give-sound}
@@ -126,9 +126,6 @@ ready-stays t g h c apart r = record {
             (λ n o. fails (bit i (g .types)) (λ q. apart (item h i) (record { number = n; host = o; type = q }) (record { number = refl; host = refl; type = p }))),
       );
 }
-
-abbrev pub givens : List Turn → List Return
-givens = map (λ (turn : Turn). turn .given)
 
 -- returns that are ready and name nothing twice are done, one after the other
 all-done : (turns : List Turn) (t : Table) → Sound t → ((g : Return) → List·Memᴰ g (givens turns) → Ready t g) → NoneTwice (givens turns)

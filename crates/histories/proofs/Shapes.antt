@@ -14,8 +14,8 @@ use Rattle.words.specs.declared.realm.Realm.{Realm}
 use Rattle.words.proofs.Tests.{differ, and-left, and-right}
 use Rattle.records.specs.Standing.{rises, isForbidden}
 use Rattle.list.specs.Fault.{begins, noRecord, fault, Seen, endFault}
-use Rattle.records.specs.Reading.{readOf, whenWhole, readSays}
-use Rattle.list.specs.Walking.{seenOf, walkAfter, refusedOr, heard, stepOf, stepSays}
+use Rattle.records.specs.Reading.{readOf, whenWhole, recordValues, readSays}
+use Rattle.list.specs.Walking.{seenOf, walkAfter, refusedOr, heard, stepOf, walkValues, stepSays}
 use Rattle.list.specs.declared.walk.Step.{Step}
 use Rattle.list.specs.declared.walk.Step.the-variants.{Next, Refused, End}
 use Rattle.list.specs.declared.walk.Walk.{Walk}
@@ -52,7 +52,12 @@ use Rattle.access.specs.Needs.{needed}
 use Rattle.desk.specs.Order.{judgedSays}
 use Rattle.desk.specs.Grant.{grantSays}
 use Rattle.desk.specs.Ask.{askSays}
-use Rattle.histories.specs.Shape.{Shape, shape, isAnswer, refuses, faults, ofRead, ofStep, ofCheck, ofEvaluate, ofRights, ofJudge, ofPlanPut, ofPlanDrop, ofPut, ofDrop, ofFill, ofAsk, ofAskUnjudged, ofGrant, ofGrantUnjudged, ofReturn, ofDropHost}
+use Rattle.histories.specs.Shape.{Shape, shape, isAnswer, isAnswerOrEnd, faults, ofRead, ofStep, ofCheck, ofEvaluate, ofRights, ofJudge, ofPlanPut, ofPlanDrop, ofPut, ofDrop, ofFill, ofAsk, ofAskUnjudged, ofGrant, ofGrantUnjudged, ofReturn, ofDropHost}
+
+-- what is said, if it is refused, is a refusal of the shape
+unfoldable refuses : Shape → Said → Bool
+refuses s (done values) = true
+refuses s (refused number values) = isAnswer s (refused number values)
 
 answers-refuse : (s : Shape) (said : Said) → isAnswer s said ≡ true → refuses s said ≡ true
 unfolding refuses
@@ -143,35 +148,35 @@ check-answers list =
     (one-after ofCheck _ _ (answers-refuse ofCheck _ (faults-answer (realmAt 1 list) noRecord (cut list))) (end-answers (length list) (seenIn (records list)))))
 
 -- a record read, and a step of the walk
-pub read-refuses : (r : Read) → refuses ofRead (readSays r) ≡ true
-unfolding readSays refuses isAnswer ofRead shape anyOf
-read-refuses Nothing = refl
-read-refuses Unknown = refl
-read-refuses Short = refl
-read-refuses (Whole r) = refl
+pub read-answers : (r : Read) → isAnswerOrEnd ofRead (readSays r) ≡ true
+unfolding readSays recordValues isAnswerOrEnd isAnswer ofRead shape anyOf
+read-answers Nothing = refl
+read-answers Unknown = refl
+read-answers Short = refl
+read-answers (Whole r) = refl
 
-refused-or : (number place : ℕ) (step : Step) → isAnswer ofCheck (refusedAt place number) ≡ true → refuses ofStep (stepSays step) ≡ true
-    → refuses ofStep (stepSays (refusedOr number place step)) ≡ true
-unfolding refusedOr refusedAt stepSays refuses within ofCheck ofStep shape faults anyOf allOf
+refused-or : (number place : ℕ) (step : Step) → isAnswer ofCheck (refusedAt place number) ≡ true → isAnswerOrEnd ofStep (stepSays step) ≡ true
+    → isAnswerOrEnd ofStep (stepSays (refusedOr number place step)) ≡ true
+unfolding refusedOr refusedAt stepSays isAnswerOrEnd refuses within ofCheck ofStep shape faults anyOf allOf
 refused-or number place step p q = go (eqb number 0) p
   where
-    go : (b : Bool) → isAnswer ofCheck (if b then done [] else refused number (place ∷ [])) ≡ true → refuses ofStep (stepSays (if b then step else Refused number place)) ≡ true
+    go : (b : Bool) → isAnswer ofCheck (if b then done [] else refused number (place ∷ [])) ≡ true → isAnswerOrEnd ofStep (stepSays (if b then step else Refused number place)) ≡ true
     go true z = q
     go false z = wider ofCheck ofStep refl (refused number (place ∷ [])) z
 
-met : (walk : Walk) (read : Read) → refuses ofStep (stepSays (whenWhole read (λ r. Next r (walkAfter walk r)) End)) ≡ true
-unfolding whenWhole stepSays refuses
+met : (walk : Walk) (read : Read) → isAnswerOrEnd ofStep (stepSays (whenWhole read (λ r. Next r (walkAfter walk r)) End)) ≡ true
+unfolding whenWhole stepSays recordValues walkValues isAnswerOrEnd isAnswer ofStep shape
 met walk Nothing = refl
 met walk Unknown = refl
 met walk Short = refl
 met walk (Whole r) = refl
 
-pub step-refuses : (walk : Walk) (list : List ℕ) → refuses ofStep (stepSays (stepOf walk list)) ≡ true
-unfolding stepOf heard stepSays refuses isAnswer ofStep shape faults anyOf
-step-refuses walk list = go (ltb 4096 (length list)) (eqb (walk .at) 0 && not (begins list)) (leb (length list) (walk .at))
+pub step-answers : (walk : Walk) (list : List ℕ) → isAnswerOrEnd ofStep (stepSays (stepOf walk list)) ≡ true
+unfolding stepOf heard stepSays isAnswerOrEnd isAnswer ofStep shape faults anyOf
+step-answers walk list = go (ltb 4096 (length list)) (eqb (walk .at) 0 && not (begins list)) (leb (length list) (walk .at))
   where
     go : (a b c : Bool)
-        → refuses ofStep (stepSays (if a then Refused 10 0 else if b then Refused 11 0 else
+        → isAnswerOrEnd ofStep (stepSays (if a then Refused 10 0 else if b then Refused 11 0 else
         if c then refusedOr (endFault (seenOf (walk .marks))) (length list) End else heard walk (readOf (drop (walk .at) list)))) ≡ true
     go true b c = refl
     go false true c = refl

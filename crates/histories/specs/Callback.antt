@@ -1,7 +1,7 @@
 -- The words of demand 3: what a list that ask wrote names, what a table holds, what returns gave back.
 use mathlib.Core.Path.{_≡_}
 use mathlib.Core.Bool.{true}
-use mathlib.Core.List.{List, [], _∷_, _++_, List·Memᴰ}
+use mathlib.Core.List.{List, [], _∷_, _++_, map, List·Memᴰ}
 use mathlib.Core.Logic.{_≢_}
 use Prim.Native.Nat.{ℕ, zero, suc, _^_}
 use lib.ListN.{getD, take, drop}
@@ -60,6 +60,10 @@ pub record Listed (list : List Entry) (x : Item) : Type 0 where
 pub record Turn : Type 0 where
   pub given : Return
   pub reply : Reply
+
+-- the returns themselves
+abbrev pub givens : List Turn → List Return
+givens = map (λ (turn : Turn). turn .given)
 
 -- the table's bytes before and after a return that was answered so
 abbrev pub TurnLeaves : Turn → List ℕ → List ℕ → Type 0

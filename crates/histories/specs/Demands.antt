@@ -47,9 +47,9 @@ use Rattle.access.specs.Access.{Access, accessSays, Judges}
 use Rattle.desk.specs.Grant.{Grants}
 use Rattle.desk.specs.Ask.{Asks}
 use Rattle.exchange.specs.Answer.{truthSays}
-use Rattle.histories.specs.Shape.{Shape, isAnswer, refuses, ofRead, ofStep, ofCheck, ofEvaluate, ofRights, ofJudge, ofPlanPut, ofPlanDrop, ofPut, ofDrop, ofFill, ofAsk, ofAskUnjudged, ofGrant, ofGrantUnjudged, ofReturn, ofDropHost, ofAudit}
+use Rattle.histories.specs.Shape.{Shape, isAnswer, isAnswerOrEnd, ofRead, ofStep, ofCheck, ofEvaluate, ofRights, ofJudge, ofPlanPut, ofPlanDrop, ofPut, ofDrop, ofFill, ofAsk, ofAskUnjudged, ofGrant, ofGrantUnjudged, ofReturn, ofDropHost, ofAudit}
 use Rattle.histories.specs.History.{Call, isFill, Runs, Reached, Gives}
-use Rattle.histories.specs.Callback.{slotAt, Item, Holds, Entry, entriesIn, Listed, Turn, Returned, GivenBack, returnOf, Reordered, Split, returnOne, Singly}
+use Rattle.histories.specs.Callback.{slotAt, Item, Holds, Entry, entriesIn, Listed, Turn, givens, Returned, GivenBack, returnOf, Reordered, Split, returnOne, Singly}
 
 -- "every call ends with an answer or a numbered refusal of 01's table, and a refusal leaves every lent byte as it was": of a call that is lent
 -- a buffer to change
@@ -60,8 +60,8 @@ pub record Ends (s : Shape) (said : Said) (before after : List ℕ) : Type 0 whe
 -- demand 1, of every call by its own statement; those that are lent bytes only to read can change none
 pub record Demand1 : Type 0 where
   pub check : (list : List ℕ) (r : Verdict) → Checks list r → isAnswer ofCheck (verdictSays r) ≡ true
-  pub read-record : (tail : List ℕ) (r : Read) → ReadsRecord tail r → refuses ofRead (readSays r) ≡ true
-  pub step : (walk : Walk) (list : List ℕ) (r : Step) → Steps walk list r → refuses ofStep (stepSays r) ≡ true
+  pub read-record : (tail : List ℕ) (r : Read) → ReadsRecord tail r → isAnswerOrEnd ofRead (readSays r) ≡ true
+  pub step : (walk : Walk) (list : List ℕ) (r : Step) → Steps walk list r → isAnswerOrEnd ofStep (stepSays r) ≡ true
   pub evaluate : (list groups : List ℕ) (caller : Caller) (file : File) (r : Evaluated) → Evaluates list groups caller file r → isAnswer ofEvaluate (evaluatedAs r .says) ≡ true
   pub decide : (list groups : List ℕ) (caller : Caller) (file : File) (guard : Guard) (r : Found) → Finds (decided list groups caller file guard) r
       → isAnswer ofRights (answerSays (r .answer)) ≡ true
@@ -103,6 +103,10 @@ pub record Again (bytes : List ℕ) (claim : Claim) (turns : List Turn) (present
 abbrev pub Served : List ℕ → Said → Type 0
 Served present said = said ≡ roomSays (tableOf present)
 
+-- none of the returns was refused, and the request is served
+abbrev pub AllDone : List Turn → List ℕ → Said → Type 0
+AllDone turns present said = ((turn : Turn) → List·Memᴰ turn turns → turn .reply ≡ Done) × Served present said
+
 -- a listed type of a listed token is still held
 pub record StillHeld (list : List Entry) (present : List ℕ) : Type 0 where
   pub item : Item
@@ -121,13 +125,11 @@ pub record LeastThatServes (list : List Entry) (turns : List Turn) (present : Li
   -- the least: returns that leave out a listed type do not serve
   pub least : Served present said → (x : Item) → Listed list x → GivenBack turns x
   -- where the returns are one for each entry, in any order: none of them is refused, and the request is served
-  pub in-any-order : (es : List Entry) → Reordered es list → map (λ (turn : Turn). turn .given) turns ≡ map returnOf es
-      → ((turn : Turn) → List·Memᴰ turn turns → turn .reply ≡ Done) × Served present said
+  pub in-any-order : (es : List Entry) → Reordered es list → givens turns ≡ map returnOf es → AllDone turns present said
   -- and so where the returns are one for each type of each entry, in any order and mixed
-  pub type-by-type : (xs : List Item) → Singly list xs → map (λ (turn : Turn). turn .given) turns ≡ map returnOne xs
-      → ((turn : Turn) → List·Memᴰ turn turns → turn .reply ≡ Done) × Served present said
+  pub type-by-type : (xs : List Item) → Singly list xs → givens turns ≡ map returnOne xs → AllDone turns present said
   -- and however else they are split
-  pub split : Split list (map (λ (turn : Turn). turn .given) turns) → ((turn : Turn) → List·Memᴰ turn turns → turn .reply ≡ Done) × Served present said
+  pub split : Split list (givens turns) → AllDone turns present said
 
 -- demand 2, of every table that calls reach
 abbrev pub Demand2 : Type 0

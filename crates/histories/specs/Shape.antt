@@ -22,16 +22,17 @@ isAnswer s (refused number []) = anyOf (eqb number) (s .plain)
 isAnswer s (refused number (value ∷ [])) = anyOf (eqb number) (s .valued)
 isAnswer s (refused number (value ∷ other ∷ more)) = false
 
--- what is said, if it is refused, is a refusal of the shape
-unfoldable pub refuses : Shape → Said → Bool
-refuses s (done values) = true
-refuses s (refused number values) = isAnswer s (refused number values)
+-- or nothing, at the end of a list
+unfoldable pub isAnswerOrEnd : Shape → Said → Bool
+isAnswerOrEnd s (done []) = true
+isAnswerOrEnd s (done (value ∷ more)) = isAnswer s (done (value ∷ more))
+isAnswerOrEnd s (refused number values) = isAnswer s (refused number values)
 
 -- a list's own
 unfoldable pub faults : List ℕ
 faults = 10 ∷ 11 ∷ 12 ∷ 13 ∷ 14 ∷ 15 ∷ 16 ∷ 17 ∷ 18 ∷ 19 ∷ []
 
--- a record read, with its six values, and a step of the walk, with those of the record and of the walk after it; at the end they have none
+-- a record read, with its values; a step of the walk, with those of the record and of the walk after it
 unfoldable pub ofRead : Shape
 ofRead = shape 6 [] (12 ∷ 13 ∷ [])
 

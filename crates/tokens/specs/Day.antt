@@ -26,10 +26,11 @@ asks c = saysOf (askSays c (replicate 13 255))
 unfoldable pub lists : Claim → List ℕ → Said
 lists c bytes = done (left (asks c bytes) (listFor c (tableOf bytes)) (replicate 13 255))
 
--- host 2's status read 900 to 900 alone, byte by byte: 900 is 3 times 256 and 132
+-- 900 in eight bytes: 3 times 256, and 132
 unfoldable pub far : List ℕ
 far = 0 ∷ 0 ∷ 0 ∷ 0 ∷ 0 ∷ 0 ∷ 3 ∷ 132 ∷ []
 
+-- host 2's status read 900 to 900 alone
 unfoldable pub status : List ℕ
 status = header 2 ++ ((1 ∷ 0 ∷ 4 ∷ 0 ∷ 2 ∷ []) ++ (eight 7 ++ (0 ∷ 0 ∷ 0 ∷ 9 ∷ [])) ++ (far ++ (far ++ eight 1))) ++ free
 
