@@ -50,6 +50,12 @@ fn refused(number: u8, detail: u64) -> Answer
     }
 }
 
+pub fn of_value(value: u64) -> Answer
+    ensures { λ r. ⌜ Means (answerOf (done (value ∷ []))) r ⌝ }
+{
+    done(value)
+}
+
 pub fn of_truth(truth: bool) -> Answer
     ensures { λ r. ⌜ Means (answerOf (truthSays truth)) r ⌝ }
 {

@@ -7,6 +7,7 @@ pub use answer::of_edited;
 pub use answer::of_found;
 pub use answer::of_reply;
 pub use answer::of_truth;
+pub use answer::of_value;
 pub use answer::of_verdict;
 pub use given::Caller;
 pub use given::Claim;

@@ -23,6 +23,7 @@ use Rattle.returns.specs.Return.{returnSays, returned, Returns as ReturnsTypes}
 use Rattle.returns.specs.DropHost.{dropSays, Drops as DropsTable}
 use Rattle.audit.specs.Audit.{sound}
 use Rattle.access.specs.Access.{Access}
+use Rattle.access.specs.Needs.{needed}
 use Rattle.desk.specs.Grant.{grantSays, Grants as GrantsToken}
 use Rattle.desk.specs.Ask.{askSays, Asks as AsksTable}
 use Rattle.exchange.specs.Answer.{answerFor, answerOf, truthSays}
@@ -31,7 +32,7 @@ use Rattle.exchange.specs.declared.answer.Answer.{Answer}
 use Rattle.exchange.specs.declared.given.Claim.{Claim}
 use Rattle.mastarik.specs.Lists.{decidedFor}
 use Rattle.mastarik.specs.Tables.{Fills, Asks, Grants, Returns, DropsHost}
-use Rattle.histories.specs.Shape.{Shape, shape, isAnswer, faults, ofCheck, ofRights, ofPut, ofDrop, ofFill, ofAsk, ofGrant, ofReturn, ofDropHost, ofAudit}
+use Rattle.histories.specs.Shape.{Shape, shape, isAnswer, faults, ofCheck, ofRights, ofPut, ofDrop, ofFill, ofAsk, ofGrant, ofReturn, ofDropHost, ofAudit, ofNeeds}
 use Rattle.histories.specs.History.{Leaves, RunsBy, Runs, Gives, judged}
 use Rattle.histories.specs.Callback.{TurnLeaves, Returned}
 use Rattle.histories.specs.Demands.{Ends, Again}
@@ -97,11 +98,12 @@ in-c s p said told d = record {
 }
 
 pub demand1-in-c : Demand1InC
-unfolding answerOf proper shape faults anyOf allOf ofCheck ofRights ofAudit ofPut ofDrop ofFill ofAsk ofGrant ofReturn ofDropHost decidedFor
+unfolding answerOf proper shape faults anyOf allOf ofCheck ofRights ofAudit ofPut ofDrop ofFill ofAsk ofGrant ofReturn ofDropHost ofNeeds isAnswer decidedFor
 demand1-in-c = record {
   check = λ list a c. answered ofCheck refl (checkSays list) 0 0 (c .answer) (check-answers list);
   rights = λ list groups caller file a g. answered ofRights refl _ _ _ (g .answer) (decided-answers list groups (callerOf caller) (fileOf file) (guardOf file));
   audit = λ bytes a d. answered ofAudit refl (truthSays (sound bytes)) 0 0 (d .answer) (audit-answers (sound bytes));
+  needs = λ types dir a n. answered ofNeeds refl (done (needed (not (eqb dir 0)) types ∷ [])) 0 0 (n .answer) refl;
   put = λ list out after entry a q. in-c ofPut refl _ (q .answer) (ends ofPut _ _ out after refl (put-answers list (entryOf entry) out) (q .out-after));
   drop-entry = λ list out after entry a q. in-c ofDrop refl _ (q .answer) (ends ofDrop _ _ out after refl (drop-entry-answers list (entryOf entry) out) (q .out-after));
   fill = λ bytes after a f. in-c ofFill refl _ (f .answer) (ends ofFill _ _ bytes after refl (fill-answers bytes) (f .table-after));

@@ -26,7 +26,8 @@ use Rattle.exchange.specs.declared.given.Entry.{Entry}
 use Rattle.exchange.specs.declared.given.File.{File}
 use Rattle.mastarik.specs.Lists.{Checks, decidedFor, GivesRights, Puts, Drops}
 use Rattle.mastarik.specs.Tables.{Fills, Asks, Grants, Returns, DropsHost, Audits}
-use Rattle.histories.specs.Shape.{Shape, isAnswer, ofCheck, ofRights, ofPut, ofDrop, ofFill, ofAsk, ofGrant, ofReturn, ofDropHost, ofAudit}
+use Rattle.mastarik.specs.Types.{TellsNeeds}
+use Rattle.histories.specs.Shape.{Shape, isAnswer, ofCheck, ofRights, ofPut, ofDrop, ofFill, ofAsk, ofGrant, ofReturn, ofDropHost, ofAudit, ofNeeds}
 use Rattle.histories.specs.History.{Return, Call, toFill, toAsk, toGrant, toReturn, toDropHost, toAudit, isFill, RunsBy, Reached}
 use Rattle.histories.specs.Callback.{entriesIn, Turn}
 use Rattle.histories.specs.Demands.{NoTwoConflict, LeastThatServes}
@@ -104,12 +105,13 @@ pub record EndsInC (s : Shape) (a : Answer) (before after : List ℕ) : Type 0 w
   pub answered : Answered s 0 0 a
   pub unchanged : a .refused ≢ 0 → after ≡ before
 
--- demand 1, of every export
+-- demand 1, of every export that gives an answer
 pub record Demand1InC : Type 0 where
   pub check : (list : List ℕ) (a : Answer) → Checks list a → Answered ofCheck 0 0 a
   pub rights : (list groups : List ℕ) (caller : Caller) (file : File) (a : Answer) → GivesRights list groups caller file a
       → Answered ofRights (decidedFor list groups caller file .start) (decidedFor list groups caller file .size) a
   pub audit : (bytes : List ℕ) (a : Answer) → Audits bytes a → Answered ofAudit 0 0 a
+  pub needs : (types dir : ℕ) (a : Answer) → TellsNeeds types dir a → Answered ofNeeds 0 0 a
   pub put : (list out after : List ℕ) (entry : Entry) (a : Answer) → Puts list entry out a after → EndsInC ofPut a out after
   pub drop-entry : (list out after : List ℕ) (entry : Entry) (a : Answer) → Drops list entry out a after → EndsInC ofDrop a out after
   pub fill : (bytes after : List ℕ) (a : Answer) → Fills bytes a after → EndsInC ofFill a bytes after

@@ -87,6 +87,9 @@ ofReturn = shape 0 (30 ∷ 31 ∷ 36 ∷ 37 ∷ []) []
 unfoldable pub ofDropHost : Shape
 ofDropHost = shape 1 (30 ∷ 31 ∷ []) []
 
--- audit never refuses: yes is 1, and no is 0
+-- audit never refuses: yes is 1, and no is 0; nor does what tells the rights that types need
 unfoldable pub ofAudit : Shape
 ofAudit = shape 1 [] []
+
+unfoldable pub ofNeeds : Shape
+ofNeeds = shape 1 [] []

@@ -1,9 +1,10 @@
 -- What a call says of what it was given, carried over to C. Assumes nothing.
 use mathlib.Core.Path.{_≡_, refl, ap, subst, _∙_}
-use mathlib.Core.Bool.{Bool}
-use mathlib.Core.List.{List}
+use mathlib.Core.Bool.{Bool, not}
+use mathlib.Core.List.{List, [], _∷_}
 use Prim.Native.Nat.{ℕ}
-use Rattle.words.specs.Said.{Said}
+use lib.Dec.{eqb}
+use Rattle.words.specs.Said.{Said, done}
 use Rattle.evaluate.specs.Evaluation.{verdictSays, Checks as ChecksList}
 use Rattle.evaluate.specs.declared.asking.Caller.{Caller as TheCaller}
 use Rattle.evaluate.specs.declared.asking.File.{File as TheFile}
@@ -22,6 +23,7 @@ use Rattle.returns.specs.Return.{Returns as ReturnsTypes}
 use Rattle.returns.specs.DropHost.{Drops as FreesHost}
 use Rattle.audit.specs.Audit.{Audits as AuditsTable}
 use Rattle.access.specs.Access.{accessOf}
+use Rattle.access.specs.Needs.{Needs}
 use Rattle.desk.specs.Grant.{Grants as GrantsToken}
 use Rattle.desk.specs.Ask.{Asks as AsksTable}
 use Rattle.exchange.specs.Meaning.{Means}
@@ -34,6 +36,7 @@ use Rattle.exchange.specs.declared.given.Entry.{Entry}
 use Rattle.exchange.specs.declared.given.File.{File}
 use Rattle.mastarik.specs.Lists.{Checks, decidedFor, GivesRights, Puts, Drops}
 use Rattle.mastarik.specs.Tables.{accessFor, Fills, Asks, Grants, Returns, DropsHost, Audits}
+use Rattle.mastarik.specs.Types.{TellsNeeds}
 
 -- what was said is what the statement says
 told : {r : Answer} {said wanted : Said} → Means (answerOf said) r → said ≡ wanted → r ≡ answerOf wanted
@@ -45,6 +48,9 @@ module _ {r : Answer} where
 
   pub audits : {bytes : List ℕ} {truth : Bool} → Means (answerOf (truthSays truth)) r → AuditsTable bytes truth → Audits bytes r
   audits said p = record { answer = told said (ap truthSays (p .answer)) }
+
+  pub tells-needs : {types dir needs : ℕ} → Means (answerOf (done (needs ∷ []))) r → Needs types (not (eqb dir 0)) needs → TellsNeeds types dir r
+  tells-needs said p = record { answer = told said (ap (λ n. done (n ∷ [])) (p .answer)) }
 
   module _ {list : List ℕ} {entry : Entry} {e : TheEntry} (given : Means (entryOf entry) e) {out after : List ℕ} {edited : Edited} (said : Means (answerOf (editedSays edited)) r) where
     pub puts : PutsEntry list e out edited after → Puts list entry out r after

@@ -5,6 +5,8 @@ use Prim.Native.Nat.{ℕ}
 use Rattle.access.specs.Access.{Access}
 use Rattle.mastarik.specs.Lists.{Checks, GivesRights, Puts, Drops}
 use Rattle.mastarik.specs.Tables.{Fills, Asks, Grants, Returns, DropsHost, Audits}
+use Rattle.mastarik.specs.Types.{TellsNeeds}
+use Rattle.mastarik.specs.Version.{TellsVersion}
 use Rattle.exchange.specs.declared.answer.Answer.{Answer}
 use Rattle.exchange.specs.declared.given.Caller.{Caller}
 use Rattle.exchange.specs.declared.given.Claim.{Claim}
@@ -20,6 +22,9 @@ module _ (r r′ : Answer) where
 
   pub audit-determined : (bytes : List ℕ) → Audits bytes r → Audits bytes r′ → r ≡ r′
   audit-determined bytes p q = p .answer ∙ sym (q .answer)
+
+  pub needs-determined : (types dir : ℕ) → TellsNeeds types dir r → TellsNeeds types dir r′ → r ≡ r′
+  needs-determined types dir p q = p .answer ∙ sym (q .answer)
 
   module _ (after after′ : List ℕ) where
     module _ (list : List ℕ) (entry : Entry) (out : List ℕ) where
@@ -44,3 +49,6 @@ module _ (r r′ : Answer) where
 
       pub drop-host-determined : (host : ℕ) → DropsHost bytes host r after → DropsHost bytes host r′ after′ → (r ≡ r′) × (after ≡ after′)
       drop-host-determined host p q = (p .answer ∙ sym (q .answer), p .table-after ∙ sym (q .table-after))
+
+pub version-determined : (r r′ : ℕ) → TellsVersion r → TellsVersion r′ → r ≡ r′
+version-determined r r′ p q = p .answer ∙ sym (q .answer)

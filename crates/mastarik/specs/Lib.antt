@@ -1,2 +1,4 @@
 pub mod Lists
 pub mod Tables
+pub mod Types
+pub mod Version

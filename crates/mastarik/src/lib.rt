@@ -1,6 +1,8 @@
 // The static library: every call, for C.
 mod lists;
 mod tables;
+mod types;
+mod version;
 
 pub use lists::mastarik_check;
 pub use lists::mastarik_drop_entry;
@@ -12,3 +14,5 @@ pub use tables::mastarik_drop_host;
 pub use tables::mastarik_fill;
 pub use tables::mastarik_grant;
 pub use tables::mastarik_return;
+pub use types::mastarik_needs;
+pub use version::mastarik_version;
