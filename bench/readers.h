@@ -4,8 +4,8 @@
 
 #include "lockstep.h"
 
-/* Walks the list, which may be any bytes: what the walk reads, spelled again, is the list up to where the walk ends, and
- * for a list that passes that is its end. Walks that begin anywhere stay inside as well.
+/* Walks the list, which may be any bytes: what the walk reads, spelled again, is the list up to where it ends, and for a
+ * list that passes that is its end. Walks that begin anywhere stay inside as well.
  */
 void compare_walk(const struct input *input, bool passes);
 
