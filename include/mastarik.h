@@ -25,7 +25,7 @@
  *
  * To keep a table on disk: write it to a file beside the old one, flush it to the disk, rename it over the old one; do
  * so before a grant's answer is sent. Audit it after loading. A copy older than the last grant gives numbers again that
- * were given since: then drop every host, or fill, and let each host know that it holds nothing.
+ * were given since: then fill it, and let every host know that it holds nothing.
  *
  * To move to a larger table there is no call. Either let the tokens come back, or drop their hosts, and fill the larger
  * one: no token carries over, since its number would be given anew. Or copy: the bytes of a well-formed table and after
