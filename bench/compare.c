@@ -275,6 +275,7 @@ int main(int count, char **arguments)
     }
     lockstep_begin("texts", seed, 0);
     compare_texts();
+    compare_fixed();
     unsigned missing = print_summary();
     printf(missing ? "some refusals never came up\n" : "equal throughout, each refusal seen\n");
     return missing ? EXIT_FAILURE : EXIT_SUCCESS;

@@ -1,8 +1,8 @@
 /* The easy calls by number. */
 #include "easy.h"
 
-/* A length that NULL is lent with: that of a table, and more than the groups may be. */
-enum { MADE_UP = MASTARIK_SLOT_SIZE * 3 };
+/* The length that NULL is lent with: that of a table, and more than a list and groups may have. */
+enum { MADE_UP = MASTARIK_SLOT_SIZE * 200 };
 
 static size_t told(size_t length)
 {

@@ -3,26 +3,23 @@
 
 #include <stdio.h>
 #include <string.h>
+#include <sys/mman.h>
 
 #include "draw.h"
 #include "inputs.h"
 
-enum { GUARD = 32, COPIES = 2 };
-
-/* Two copies of a list between guards, one of bytes that begin a record and one of bytes that do not: a walk that reads
- * past its list goes two ways.
- */
-static const uint8_t guards[COPIES] = {MASTARIK_USER_OBJ, 0};
-static uint8_t copies[COPIES][GUARD + LIST_ROOM + GUARD];
 static struct input spelled;
 
-static void lay_copies(const struct input *in)
+/* Copies a list to where memory ends that can be read: to read a byte past it ends the program. */
+static const uint8_t *lay_at_edge(const struct input *in)
 {
-    for (int i = 0; i < COPIES; i++) {
-        memset(copies[i], guards[i], GUARD);
-        memcpy(copies[i] + GUARD, in->list, in->list_length);
-        memset(copies[i] + GUARD + in->list_length, guards[i], GUARD);
+    enum { PAGES = 1 << 16 };
+    static uint8_t *memory;
+    if (memory == NULL) {
+        memory = mmap(NULL, 2 * PAGES, PROT_READ | PROT_WRITE, MAP_PRIVATE | MAP_ANONYMOUS, -1, 0);
+        expect(memory != MAP_FAILED && mprotect(memory + PAGES, PAGES, PROT_NONE) == 0, "no memory with an edge", in);
     }
+    return memcpy(memory + PAGES - in->list_length, in->list, in->list_length);
 }
 
 static bool same_record(const mastarik_record *a, const mastarik_record *b)
@@ -32,22 +29,19 @@ static bool same_record(const mastarik_record *a, const mastarik_record *b)
            memcmp(a->entry.realm, b->entry.realm, sizeof a->entry.realm) == 0;
 }
 
-/* One step over both copies, from any record. */
-static bool step(const struct input *in, mastarik_record *record)
+/* One step from any record: to one that is after it and inside of the list, or nowhere. */
+static bool step(const struct input *in, const uint8_t *list, mastarik_record *record)
 {
-    mastarik_record after[COPIES] = {*record, *record};
-    int more[COPIES];
-    for (int i = 0; i < COPIES; i++)
-        more[i] = mastarik_next_record(copies[i] + GUARD, in->list_length, &after[i]);
-    expect(more[0] == more[1] && same_record(&after[0], &after[1]), "a walk reads past its list", in);
-    expect(more[0] || same_record(&after[0], record), "a walk that ends changed the record", in);
-    if (more[0])
-        expect(after[0].place == record->place + record->length && after[0].place >= record->place &&
-                   after[0].length > 0 && after[0].place < in->list_length &&
-                   after[0].length <= in->list_length - after[0].place,
-               "a record is not after the one before, or not inside", in);
-    *record = after[0];
-    return more[0];
+    mastarik_record before = *record;
+    if (!mastarik_next_record(list, in->list_length, record)) {
+        expect(same_record(record, &before), "a walk that ends changed the record", in);
+        return false;
+    }
+    expect(record->place >= before.place && record->place - before.place == before.length &&
+               record->place < in->list_length && record->length > 0 &&
+               record->length <= in->list_length - record->place,
+           "a record is not after the one before, or not inside", in);
+    return true;
 }
 
 /* A place or a length: within the list, about its end, or anywhere. */
@@ -59,18 +53,17 @@ static size_t draw_size(const struct input *in)
 
 void compare_walk(const struct input *in, bool passes)
 {
-    lay_copies(in);
-    mastarik_record record = {0}, anywhere = {.place = draw_size(in), .length = draw_size(in)};
+    const uint8_t *list = lay_at_edge(in);
+    mastarik_record none = {0}, record = {0}, anywhere = {.place = draw_size(in), .length = draw_size(in)};
     spelled.list_length = 0;
-    while (step(in, &record))
+    while (step(in, list, &record))
         append_record(&spelled, &record.entry);
     expect(spelled.list_length == record.place + record.length &&
                memcmp(spelled.list, in->list, spelled.list_length) == 0,
            "what a walk reads is not what stands there", in);
     expect(!passes || spelled.list_length == in->list_length, "a walk ends before its list", in);
-    while (step(in, &anywhere))
+    while (step(in, list, &anywhere))
         ;
-    mastarik_record none = {0};
     expect(!mastarik_next_record(NULL, in->list_length, &none), "a walk over no bytes finds a record", in);
 }
 
@@ -104,6 +97,12 @@ void compare_call_backs(const struct input *in, size_t count)
     }
     expect(memcmp(spelled.out, in->out, MASTARIK_CALL_BACK_SIZE * count) == 0,
            "tokens to call back that are read are not those written", in);
+    uint8_t any[MASTARIK_CALL_BACK_SIZE], again[MASTARIK_CALL_BACK_SIZE];
+    draw_bytes(any, sizeof any);
+    any[0] = 3;
+    mastarik_call_back call_back = mastarik_call_back_at(any, 0);
+    put_call_back(again, &call_back);
+    expect(memcmp(again, any, sizeof any) == 0, "an entry of any numbers is not read as it stands", in);
 }
 
 static const char *type_text(uint32_t number)
@@ -145,13 +144,29 @@ void compare_texts(void)
     expect_texts(type_text, bits, 8);
     expect_texts(right_text, bits, 6);
     expect_texts(kind_text, kinds, sizeof kinds);
+}
+
+void compare_fixed(void)
+{
+    char text[32];
+    snprintf(text, sizeof text, "%d.%d.%d", MASTARIK_VERSION_MAJOR, MASTARIK_VERSION_MINOR, MASTARIK_VERSION_PATCH);
+    expect(strcmp(text, MASTARIK_VERSION_TEXT) == 0, "the version's text is another", &spelled);
+    expect(mastarik_version() == MASTARIK_VERSION, "the library is of another version", &spelled);
     for (size_t length = 0; length <= TABLE_ROOM; length++) {
         bool fits = length % MASTARIK_SLOT_SIZE == 0 && length >= 2 * MASTARIK_SLOT_SIZE && length < TABLE_ROOM;
         expect(mastarik_slot_count(length) == (fits ? length / MASTARIK_SLOT_SIZE - 1 : 0), "a wrong count of slots",
                &spelled);
     }
-    char text[32];
-    snprintf(text, sizeof text, "%d.%d.%d", MASTARIK_VERSION_MAJOR, MASTARIK_VERSION_MINOR, MASTARIK_VERSION_PATCH);
-    expect(strcmp(text, MASTARIK_VERSION_TEXT) == 0, "the version's text is another", &spelled);
-    expect(mastarik_version() == MASTARIK_VERSION, "the library is of another version", &spelled);
+    const mastarik_caller anonymous = MASTARIK_ANONYMOUS;
+    mastarik_answer named = mastarik_new_list(anonymous.realm, 63, 63, 63, spelled.out, sizeof spelled.out);
+    expect(named.refused == MASTARIK_FORBIDDEN_REALM, "the unknown realm is another", &spelled);
+    expect(anonymous.user == UINT32_MAX - 1 && anonymous.group == UINT32_MAX - 1, "the unknown id is another",
+           &spelled);
+    const mastarik_claim claim = {.types = MASTARIK_DATA_READ, .host = 1};
+    size_t length = 2 * MASTARIK_SLOT_SIZE;
+    mastarik_easy_fill(spelled.table, length);
+    expect(mastarik_easy_rights(NULL).refused == MASTARIK_NO_DEFAULT_REALM &&
+               mastarik_easy_ask(spelled.table, length, claim, NULL, NULL, 0).refused == MASTARIK_NO_DEFAULT_REALM &&
+               mastarik_easy_grant(spelled.table, length, claim, NULL).refused == MASTARIK_NO_DEFAULT_REALM,
+           "an access that is NULL is not refused", &spelled);
 }
