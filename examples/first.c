@@ -9,6 +9,7 @@ int main(void)
         .caller = {.realm = {17}, .user = 9, .group = 4},                            /* user 9 of realm 17 0 0 .. */
         .file = {.owner = 9, .group = 4, .by_mode = 1, .realm = {17}, .mode = 0640}, /* so no list is lent */
     };
+    /* host 1 wants to write bytes 0 to 99 of file 1 0 0 .. */
     const mastarik_claim claim = {.types = MASTARIK_DATA_WRITE, .host = 1, .file = {1}, .first = 0, .last = 99};
     if (mastarik_version() != MASTARIK_VERSION)
         return 1;

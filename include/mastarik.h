@@ -121,8 +121,9 @@ enum { MASTARIK_LIST_LIMIT = 4096, MASTARIK_NEW_LIST_SIZE = 23, MASTARIK_GROUP_L
  * MASTARIK_CALL_BACK_SIZE bytes for each token that it lists; n times that is always enough. */
 enum { MASTARIK_SLOT_SIZE = 41, MASTARIK_SLOT_LIMIT = 1024, MASTARIK_CALL_BACK_SIZE = 13 };
 
-/* The realm and the id of nobody, and the caller whom nobody has authenticated: a server hands over this one, not
- * zeroes, which may be somebody's. No list can name it, so by a list only any_other serves it. Initialisers. */
+/* Initialisers: the realm and the id of nobody, and the caller whom nobody has authenticated. A server hands over this
+ * one, not zeroes, which may be somebody's. By a list only any_other serves it, as no list can name it; by a mode it
+ * gets nothing. */
 #define MASTARIK_UNKNOWN_REALM {255, 255, 255, 254, 0, 0, 0, 0, 0, 0, 0, 0, 0, 0, 0, 0}
 #define MASTARIK_UNKNOWN_ID 4294967294u
 #define MASTARIK_ANONYMOUS {MASTARIK_UNKNOWN_REALM, MASTARIK_UNKNOWN_ID, MASTARIK_UNKNOWN_ID}
@@ -175,8 +176,9 @@ typedef struct mastarik_claim {
 uint32_t mastarik_version(void);
 
 /* Checks a list: refused is 0 where it passes. Its records stand in rising order of kind, then of realm and id: the
- * default realm, user_obj, group_obj, other_obj, and mask_obj where a kind of 6 or above follows. user_obj has control;
- * no realm is the unknown one, and no foreign record names the default realm. Refused with 10 to 19. */
+ * default realm, user_obj, group_obj and other_obj, then the others; a kind of 6 or above wants a mask_obj before it.
+ * user_obj has control; no realm is the unknown one, and no foreign record names the default realm. Refused with 10 to
+ * 19. */
 mastarik_answer mastarik_check(const uint8_t *list, size_t list_length);
 
 /* The caller's rights on a file: value has a bit for each. By a list the first of these decides that applies:
@@ -199,8 +201,9 @@ mastarik_answer mastarik_check(const uint8_t *list, size_t list_length);
 mastarik_answer mastarik_rights(const uint8_t *list, size_t list_length, const uint32_t *groups, size_t group_count,
                                 mastarik_caller caller, mastarik_file file);
 
-/* The rights that types need, as value: the first type of a family read; status write control; the other second ones
- * write, on a directory (dir not 0) insert and delete instead. Bits above 128 need nothing. Never refused. */
+/* The rights that types need, as value. Data read, status read, lock read and open shared need read; status write needs
+ * control; data write, lock write and open exclusive need write, on a directory (dir not 0) insert and delete instead.
+ * Bits above 128 need nothing. Never refused. */
 mastarik_answer mastarik_needs(uint16_t types, uint8_t dir);
 
 /* Writes the list with an entry put, in place of the one of the same kind, realm and id: value is the new length, and
@@ -230,8 +233,8 @@ mastarik_answer mastarik_fill(uint8_t *table, size_t table_length);
  * whole file. Families do not mix: an open exclusive stops no data write of another host. One host never conflicts with
  * itself.
  *
- * Once what is listed is returned the request is granted, unless the table is full: of that ask says nothing. Refused
- * with 30, 31, 23, 10 to 19, 22, 24, 35. */
+ * Once what is listed is returned the request is granted, unless no slot or no number is left: of these ask says
+ * nothing. Refused with 30, 31, 23, 10 to 19, 22, 24, 35. */
 mastarik_answer mastarik_ask(const uint8_t *table, size_t table_length, mastarik_claim claim, const uint8_t *list,
                              size_t list_length, const uint32_t *groups, size_t group_count, mastarik_caller caller,
                              mastarik_file file, uint8_t *out, size_t out_length);
@@ -367,8 +370,8 @@ static inline mastarik_answer mastarik_easy_audit(const uint8_t *table, size_t t
 }
 
 /* Writes the smallest list, a default realm and the rights of the three objects, to be edited from there: value is its
- * length, MASTARIK_NEW_LIST_SIZE, and bytes of out past it stay. user_obj must have control. Refused as the check of
- * that list is, with 14, 16, 19 at places in it; then with 21. */
+ * length, MASTARIK_NEW_LIST_SIZE, and bytes of out past it stay. user_obj must have control. out may be NULL, as no
+ * bytes; realm may not. Refused as the check of that list is, with 14, 16, 19 at places in it; then with 21. */
 static inline mastarik_answer mastarik_new_list(const uint8_t realm[16], uint8_t user_obj, uint8_t group_obj,
                                                 uint8_t other_obj, uint8_t *out, size_t out_length)
 {
