@@ -42,9 +42,9 @@ use Rattle.desk.specs.Grant.{grantSays}
 use Rattle.desk.specs.Ask.{askSays, Asks}
 use Rattle.exchange.specs.Answer.{truthSays}
 use Rattle.histories.specs.Shape.{Shape, shape, isAnswer, ofPut, ofDrop, ofFill, ofAsk, ofAskUnjudged, ofGrant, ofGrantUnjudged, ofReturn, ofDropHost, ofAudit}
-use Rattle.histories.specs.History.{RunsBy}
+use Rattle.histories.specs.History.{RunsBy, Reached, Resumed}
 use Rattle.histories.specs.Callback.{slotAt, Item, entriesIn, Listed, Turn, givens, Returned, GivenBack, Split}
-use Rattle.histories.specs.Demands.{Ends, NoTwoConflict, Again, Served, AllDone, StillHeld, LeastThatServes, Demand1, Demand2, Demand3, AskIsDone}
+use Rattle.histories.specs.Demands.{Ends, NoTwoConflict, Again, Served, AllDone, StillHeld, LeastThatServes, Demand1, Demand2Of, Demand2, Demand3Of, Demand3, Resuming, AskIsDone}
 use Rattle.histories.proofs.Answers.{same-value}
 use Rattle.histories.proofs.Shapes.{check-answers, read-answers, step-answers, evaluation-answers, decided-answers, access-answers, plan-put-answers, plan-drop-answers, put-answers, drop-entry-answers, fill-answers, ask-answers, ask-unjudged-answers, grant-answers, grant-unjudged-answers, return-answers, drop-answers}
 use Rattle.histories.proofs.Soundness.{Sound}
@@ -55,7 +55,7 @@ use Rattle.histories.proofs.Entries.{entries, read-list}
 use Rattle.histories.proofs.Serving.{exactly, otherwise, once-returned, least}
 use Rattle.histories.proofs.Planning.{none-refused, all-given, whole-split}
 use Rattle.histories.proofs.Singles.{singly-split}
-use Rattle.histories.proofs.Reaching.{reached-stands}
+use Rattle.histories.proofs.Reaching.{Stands, reached-stands, resumed-stands, numbers-rise}
 
 -- a call that is lent a buffer ends as it says
 pub ends : {spoken : Said} (s : Shape) (said : Said) (new old after : List ℕ) → spoken ≡ said → isAnswer s said ≡ true → after ≡ left said new old → Ends s spoken old after
@@ -123,8 +123,12 @@ module _ (t : Table) (s : Sound t) where
     audit-yes = λ r a. a .answer ∙ yes-says;
   }
 
+-- wherever the bytes stand
+none-conflict : (reached : List ℕ → Type 0) → ((bytes : List ℕ) → reached bytes → Stands bytes) → Demand2Of reached
+none-conflict reached stand bytes r = let s = stand bytes r in rw (s .spelled) (of-table (s .table) (s .sound))
+
 pub demand2 : Demand2
-demand2 bytes r = let s = reached-stands bytes r in rw (s .spelled) (of-table (s .table) (s .sound))
+demand2 = none-conflict Reached reached-stands
 
 -- the bytes after returns, and the answers, are those of the table
 run-returns : (turns : List Turn) (t : Table) → Sound t → (present : List ℕ) → Returned turns (bytesOf t) present → (present ≡ bytesOf (giveAll turns t)) × Answered turns t
@@ -227,8 +231,18 @@ module _ (t : Table) (s : Sound t) (bytes : List ℕ) (spelled : bytes ≡ bytes
       let read : entriesIn count after ≡ entries claim (t .slots) = rw (written, told .1) (read-list claim rest t o) in
       rw read (of-request t s claim (told .0) turns present said (rw spelled at again))
 
+least-serves : (reached : List ℕ → Type 0) → ((bytes : List ℕ) → reached bytes → Stands bytes) → Demand3Of reached
+least-serves reached stand bytes r claim access out = let p = stand bytes r in of-ask (p .table) (p .sound) bytes (p .spelled) claim access out
+
 pub demand3 : Demand3
-demand3 bytes r claim access out = let p = reached-stands bytes r in of-ask (p .table) (p .sound) bytes (p .spelled) claim access out
+demand3 = least-serves Reached reached-stands
+
+pub resuming : Resuming
+resuming = record {
+  demand2 = none-conflict Resumed resumed-stands;
+  demand3 = least-serves Resumed resumed-stands;
+  numbers-once = numbers-rise Resumed resumed-stands;
+}
 
 pub ask-is-done : AskIsDone
 unfolding askSays judgedSays requestSays andThen listSays replySays

@@ -31,15 +31,15 @@ use Rattle.exchange.specs.Given.{claimOf, entryOf, callerOf, fileOf, guardOf}
 use Rattle.exchange.specs.declared.answer.Answer.{Answer}
 use Rattle.exchange.specs.declared.given.Claim.{Claim}
 use Rattle.mastarik.specs.Lists.{decidedFor}
-use Rattle.mastarik.specs.Tables.{Fills, Asks, Grants, Returns, DropsHost}
+use Rattle.mastarik.specs.Tables.{Fills, Asks, Grants, Returns, DropsHost, Audits}
 use Rattle.histories.specs.Shape.{Shape, shape, isAnswer, faults, ofCheck, ofRights, ofPut, ofDrop, ofFill, ofAsk, ofGrant, ofReturn, ofDropHost, ofAudit, ofNeeds}
-use Rattle.histories.specs.History.{Leaves, RunsBy, Runs, Gives, judged}
+use Rattle.histories.specs.History.{Leaves, RunsBy, Runs, Reached, Resumed, Gives, judged}
 use Rattle.histories.specs.Callback.{TurnLeaves, Returned}
-use Rattle.histories.specs.Demands.{Ends, Again}
-use Rattle.histories.specs.Exports.{replyBy, saidBy, Typed, Export, fill, ask, grant, giveBack, dropHost, audit, ExportLeaves, ExportRuns, callOf, ExportsAreCalls, Answered, EndsInC, Demand1InC, Demand2InC, TurnInC, TurnLeavesInC, ReturnedInC, turnOf, AgainInC, Demand3InC, AskIsDoneInC, GivesInC, NumbersOnceInC}
+use Rattle.histories.specs.Demands.{Ends, Again, Demand2Of, Demand3Of, NumbersOnceOf}
+use Rattle.histories.specs.Exports.{replyBy, saidBy, Typed, Export, fill, ask, grant, giveBack, dropHost, audit, ExportLeaves, ExportRuns, callOf, ReachedInC, ResumedInC, ExportsAreCalls, ResumedAreCalls, Answered, EndsInC, Demand1InC, Demand2InCOf, Demand2InC, TurnInC, TurnLeavesInC, ReturnedInC, turnOf, AgainInC, Demand3InCOf, Demand3InC, AskIsDoneInC, GivesInC, NumbersOnceInCOf, NumbersOnceInC, ResumingInC}
 use Rattle.histories.proofs.Shapes.{at-member, check-answers, decided-answers, put-answers, drop-entry-answers, fill-answers, ask-answers, grant-answers, return-answers, drop-answers}
 use Rattle.histories.proofs.Reaching.{numbers-once}
-use Rattle.histories.proofs.Demands.{ends, table-ends, audit-answers, demand2, demand3, ask-is-done}
+use Rattle.histories.proofs.Demands.{ends, table-ends, audit-answers, demand2, demand3, ask-is-done, resuming}
 
 -- one value at most; no refusal's number is 0, and none goes both with a value and without
 unfoldable proper : Shape → Bool
@@ -189,13 +189,6 @@ exports-are-calls bytes r = record {
   runs = runs-back (r .exports) (r .fresh) bytes (r .runs);
 }
 
-pub demand2-in-c : Demand2InC
-unfolding answerOf answerFor truthSays
-demand2-in-c bytes r =
-    let d = demand2 bytes (exports-are-calls bytes r) in
-    let yes-says : sound bytes ≡ true = d .audit-yes (sound bytes) (record { answer = refl }) in
-    (d, λ a q. (ap (λ (x : Answer). x .refused) (q .answer), ap (λ (x : Answer). x .value) (q .answer) ∙ rw yes-says refl))
-
 again-back : (bytes : List ℕ) (claim : Claim) (turns : List TurnInC) (present : List ℕ) (a : Answer) → AgainInC bytes claim turns present a
     → Again bytes (claimOf claim) (map turnOf turns) present (saidBy ofGrant a)
 unfolding claimOf
@@ -209,11 +202,63 @@ again-back bytes claim turns present a g = record {
   says = refl;
 }
 
+gives-back : (before : List ℕ) (number : ℕ) (after : List ℕ) → GivesInC before number after → Gives before number after
+unfolding ofGrant shape
+gives-back before number after g = judged (claimOf (g .claim)) (g .access) (fits (g .claim) (g .typed)) (rw (← g .number-is, ← zero-back ofGrant (g .answer) (g .done)) (grants-back (g .grant)))
+
+-- an audit that answers 1 said yes
+yes-back : (bytes : List ℕ) (a : Answer) → Audits bytes a → a .value ≡ 1 → sound bytes ≡ true
+unfolding answerOf answerFor truthSays
+yes-back bytes a q e = go (sound bytes) (sym (ap (λ (x : Answer). x .value) (q .answer)) ∙ e)
+  where
+    go : (b : Bool) → _≡_ {A = ℕ} (if b then 1 else 0) 1 → b ≡ true
+    go true z = refl
+    go false z = absurd (omega (arith, z))
+
+pub resumed-are-calls : ResumedAreCalls
+resumed-are-calls bytes r = record {
+  kept = r .kept;
+  lent = r .lent;
+  audit = record { answer = sym (yes-back (r .kept) (r .answer) (r .audit) (r .yes)) };
+  calls = map callOf (r .exports);
+  runs = runs-back (r .exports) (r .kept) bytes (r .runs);
+}
+
+-- what holds wherever calls lead holds wherever exports do
+module _ (there reached : List ℕ → Type 0) (are : (bytes : List ℕ) → there bytes → reached bytes) where
+  none-conflict-in-c : Demand2Of reached → Demand2InCOf there
+  unfolding answerOf answerFor truthSays
+  none-conflict-in-c demand bytes r =
+      let d = demand bytes (are bytes r) in
+      let yes-says : sound bytes ≡ true = d .audit-yes (sound bytes) (record { answer = refl }) in
+      (d, λ a q. (ap (λ (x : Answer). x .refused) (q .answer), ap (λ (x : Answer). x .value) (q .answer) ∙ rw yes-says refl))
+
+  least-serves-in-c : Demand3Of reached → Demand3InCOf there
+  unfolding ofAsk shape
+  least-serves-in-c demand bytes r claim access out a after q e turns present again g =
+      demand bytes (are bytes r) (claimOf claim) access out (a .value) after (rw (← zero-back ofAsk a e) (asks-back q)) (map turnOf turns) present (saidBy ofGrant again)
+      (again-back bytes claim turns present again g)
+
+  numbers-rise-in-c : NumbersOnceOf reached → NumbersOnceInCOf there
+  numbers-rise-in-c demand bytes r number after g exports f later runs other last h =
+      demand bytes (are bytes r) number after (gives-back bytes number after g) (map callOf exports) f later (runs-back exports after later runs) other last
+      (gives-back later other last h)
+
+pub demand2-in-c : Demand2InC
+demand2-in-c = none-conflict-in-c ReachedInC Reached exports-are-calls demand2
+
 pub demand3-in-c : Demand3InC
-unfolding ofAsk shape
-demand3-in-c bytes r claim access out a after q e turns present again g =
-    demand3 bytes (exports-are-calls bytes r) (claimOf claim) access out (a .value) after (rw (← zero-back ofAsk a e) (asks-back q)) (map turnOf turns) present (saidBy ofGrant again)
-    (again-back bytes claim turns present again g)
+demand3-in-c = least-serves-in-c ReachedInC Reached exports-are-calls demand3
+
+pub numbers-once-in-c : NumbersOnceInC
+numbers-once-in-c = numbers-rise-in-c ReachedInC Reached exports-are-calls numbers-once
+
+pub resuming-in-c : ResumingInC
+resuming-in-c = record {
+  demand2 = none-conflict-in-c ResumedInC Resumed resumed-are-calls (resuming .demand2);
+  demand3 = least-serves-in-c ResumedInC Resumed resumed-are-calls (resuming .demand3);
+  numbers-once = numbers-rise-in-c ResumedInC Resumed resumed-are-calls (resuming .numbers-once);
+}
 
 pub ask-is-done-in-c : AskIsDoneInC
 unfolding claimOf answerFor replySays
@@ -221,12 +266,3 @@ ask-is-done-in-c bytes formed claim shaped access permitted out room a after q =
     let w = ask-is-done bytes formed (claimOf claim) shaped access permitted out room (replyBy ofAsk a) after (asks-back q) in
     let told = demand1-in-c .ask bytes out after claim access a q .answered .fields in
     ap (λ (x : Answer). x .refused) (told ∙ ap (λ (x : Reply). answerFor (replySays x) 0 0) (w .1))
-
-gives-back : (before : List ℕ) (number : ℕ) (after : List ℕ) → GivesInC before number after → Gives before number after
-unfolding ofGrant shape
-gives-back before number after g = judged (claimOf (g .claim)) (g .access) (fits (g .claim) (g .typed)) (rw (← g .number-is, ← zero-back ofGrant (g .answer) (g .done)) (grants-back (g .grant)))
-
-pub numbers-once-in-c : NumbersOnceInC
-numbers-once-in-c bytes r number after g exports f later runs other last h =
-    numbers-once bytes (exports-are-calls bytes r) number after (gives-back bytes number after g) (map callOf exports) f later (runs-back exports after later runs) other last
-    (gives-back later other last h)

@@ -12,5 +12,6 @@ pub mod Planning
 pub mod Singles
 pub mod Reaching
 pub mod Demands
+pub mod Longer
 pub mod Shutting
 pub mod Exports

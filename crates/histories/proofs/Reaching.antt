@@ -2,7 +2,7 @@
 use mathlib.Core.Path.{_≡_, refl, sym, _∙_, ap}
 use mathlib.Core.Bool.{Bool, true, false}
 use mathlib.Core.List.{List, [], _∷_, map}
-use mathlib.Core.Logic.{_⊎_, inl, inr}
+use mathlib.Core.Logic.{_⊎_, inl, inr, _≢_}
 use Prim.Native.Nat.{ℕ, zero, suc, _+_, _≤_}
 use native.Mathlib.Nat.{le-refl}
 use native.Mathlib.Omega.{arith}
@@ -10,11 +10,12 @@ use borrow.Author.Tests.{ne-eqb}
 use lib.ListN.{length, getD, replicate, length-replicate, List·getD-map}
 use Rattle.words.specs.Test.{if_then_else_}
 use Rattle.words.specs.Said.{Said, done, refused, andThen, left}
+use Rattle.words.specs.Number.{Bytes}
 use Rattle.words.proofs.Tests.{differ, Each, none-any}
 use Rattle.words.proofs.Left.{left-whole, not-done}
 use Rattle.claims.specs.declared.claim.Claim.{Claim}
 use Rattle.table.specs.Table.{Table}
-use Rattle.table.specs.Layout.{Fits, count, bytesOf}
+use Rattle.table.specs.Layout.{Fits, count, tableOf, bytesOf}
 use Rattle.table.specs.Form.{isLength}
 use Rattle.table.specs.Reply.{replySays}
 use Rattle.table.specs.Fill.{filled, fillSays, Fills}
@@ -24,22 +25,24 @@ use Rattle.table.specs.declared.reply.Reply.the-variants.{Done}
 use Rattle.table.specs.declared.slot.Slot.{Slot}
 use Rattle.table.specs.declared.slot.Slot.the-variants.{Free, Held}
 use Rattle.table.proofs.Cuts.{sized}
-use Rattle.table.proofs.Tables.{bytes-length}
+use Rattle.table.proofs.Tables.{bytes-length, bytes-table}
+use Rattle.table.proofs.Means.{ordered}
 use Rattle.table.proofs.Ordering.{fresh-order}
 use Rattle.tokens.specs.Grant.{lastNumber, roomSays, requestSays, serveSays, granted, grantSays as plainSays}
 use Rattle.tokens.proofs.Kept.{passed, grant-order}
 use Rattle.returns.specs.Return.{returnSays, returned}
 use Rattle.returns.specs.DropHost.{isHosts, freed, dropSays, dropped}
 use Rattle.returns.proofs.Kept.{return-order, drop-order}
-use Rattle.audit.proofs.Exactly.{from-free}
+use Rattle.audit.specs.Audit.{apart, Audits, Quiet}
+use Rattle.audit.proofs.Exactly.{free-last, from-free, apart-tokens, exactly}
 use Rattle.access.specs.Access.{Access, accessSays}
 use Rattle.desk.specs.Order.{judgedSays}
 use Rattle.desk.specs.Grant.{grantSays}
-use Rattle.histories.specs.History.{Call, toFill, toAsk, toAskUnjudged, toGrant, toGrantUnjudged, toReturn, toDropHost, toAudit, isFill, Leaves, RunsBy, Runs, Reached, Gives, judged, unjudged}
+use Rattle.histories.specs.History.{Call, toFill, toAsk, toAskUnjudged, toGrant, toGrantUnjudged, toReturn, toDropHost, toAudit, isFill, Leaves, RunsBy, Runs, Reached, Resumed, Gives, judged, unjudged}
 use Rattle.histories.specs.Callback.{slotAt}
-use Rattle.histories.specs.Demands.{NumbersOnce}
+use Rattle.histories.specs.Demands.{NumbersOnceOf, NumbersOnce}
 use Rattle.histories.proofs.Answers.{same-value}
-use Rattle.histories.proofs.Soundness.{Sound, Shrunk, shrunk-apart, granted-apart}
+use Rattle.histories.proofs.Soundness.{AllApart, Sound, Shrunk, shrunk-apart, granted-apart}
 use Rattle.histories.proofs.Spelling.{next, says-there, left-there}
 use Rattle.histories.proofs.Giving.{gave-sound}
 
@@ -224,6 +227,28 @@ reached-stands bytes r = runs-stand (r .calls) (r .fresh) bytes (r .runs) (go (f
     go (inl p) = p
     go (inr p) = absurd (not-done 30 [] [] (sym (p .0)))
 
+-- bytes to which the audit says yes stand
+audited-apart : (t : Table) → Quiet t → AllApart t
+audited-apart t q = record { at = λ i j d. go (slotAt t i) (slotAt t j) i j d refl refl }
+  where
+    go : (a b : Slot) (i j : ℕ) → i ≢ j → slotAt t i ≡ a → slotAt t j ≡ b → apart a b ≡ true
+    go Free b i j d p r = from-free b
+    go (Held number a) Free i j d p r = free-last (Held number a)
+    go (Held number a) (Held other b) i j d p r =
+        apart-tokens number other a b (q .numbers-differ i j number other a b d p r) (q .nothing-conflicts i j number other a b d p r)
+
+audited-stands : (bytes : List ℕ) → Bytes bytes → Audits bytes true → Stands bytes
+audited-stands bytes lent a =
+    let e = exactly bytes .0 (sym (a .answer)) in
+    record {
+      table = tableOf bytes;
+      spelled = sym (bytes-table bytes (e .0) lent);
+      sound = record { order = ordered bytes lent (e .0); all = audited-apart (tableOf bytes) (e .1) };
+    }
+
+pub resumed-stands : (bytes : List ℕ) → Resumed bytes → Stands bytes
+resumed-stands bytes r = runs-stand (r .calls) (r .kept) bytes (r .runs) (audited-stands (r .kept) (r .lent) (r .audit))
+
 -- a grant that is done gives the next number, and raises it
 module _ (claim : Claim) (fits : Fits claim) (t : Table) (sound : Sound t) (number : ℕ) where
   its-number : plainSays claim t ≡ done (number ∷ []) → number ≡ t .next
@@ -251,10 +276,14 @@ gives-follows bytes s number after (judged claim access fits g) =
 gives-follows bytes s number after (unjudged claim fits g) =
     given-follows claim fits (s .table) (s .sound) number (plainSays claim) (λ e. e) bytes after (s .spelled) (g .answer) (g .table-after)
 
-pub numbers-once : NumbersOnce
-numbers-once bytes r number after g calls f later runs other last h =
-    let s = reached-stands bytes r in
+-- wherever the bytes stand
+pub numbers-rise : (reached : List ℕ → Type 0) → ((bytes : List ℕ) → reached bytes → Stands bytes) → NumbersOnceOf reached
+numbers-rise reached stand bytes r number after g calls f later runs other last h =
+    let s = stand bytes r in
     let first = gives-follows bytes s number after g .1 in
     let w = runs-follow calls after later (none-any isFill calls f) runs (first .stands) in
     let n = gives-follows later (w .stands) other last h .0 in
     omega (arith, first .rises, w .rises)
+
+pub numbers-once : NumbersOnce
+numbers-once = numbers-rise Reached reached-stands

@@ -48,7 +48,7 @@ use Rattle.desk.specs.Grant.{Grants}
 use Rattle.desk.specs.Ask.{Asks}
 use Rattle.exchange.specs.Answer.{truthSays}
 use Rattle.histories.specs.Shape.{Shape, isAnswer, isAnswerOrEnd, ofRead, ofStep, ofCheck, ofEvaluate, ofRights, ofJudge, ofPlanPut, ofPlanDrop, ofPut, ofDrop, ofFill, ofAsk, ofAskUnjudged, ofGrant, ofGrantUnjudged, ofReturn, ofDropHost, ofAudit}
-use Rattle.histories.specs.History.{Call, isFill, Runs, Reached, Gives}
+use Rattle.histories.specs.History.{Call, isFill, Runs, Reached, Resumed, Gives}
 use Rattle.histories.specs.Callback.{slotAt, Item, Holds, Entry, entriesIn, Listed, Turn, givens, Returned, GivenBack, returnOf, Reordered, Split, returnOne, Singly}
 
 -- "every call ends with an answer or a numbered refusal of 01's table, and a refusal leaves every lent byte as it was": of a call that is lent
@@ -132,15 +132,21 @@ pub record LeastThatServes (list : List Entry) (turns : List Turn) (present : Li
   pub split : Split list (givens turns) → AllDone turns present said
 
 -- demand 2, of every table that calls reach
+abbrev pub Demand2Of : (List ℕ → Type 0) → Type 0
+Demand2Of reached = (bytes : List ℕ) → reached bytes → NoTwoConflict bytes
+
 abbrev pub Demand2 : Type 0
-Demand2 = (bytes : List ℕ) → Reached bytes → NoTwoConflict bytes
+Demand2 = Demand2Of Reached
 
 -- demand 3, of every table that calls reach and every ask that is done there: its list is read off the bytes that it wrote
-abbrev pub Demand3 : Type 0
-Demand3 = (bytes : List ℕ) → Reached bytes
+abbrev pub Demand3Of : (List ℕ → Type 0) → Type 0
+Demand3Of reached = (bytes : List ℕ) → reached bytes
     → (claim : Claim) (access : Access) (out : List ℕ) (count : ℕ) (after : List ℕ) → Asks bytes claim access out (Value count) after
     → (turns : List Turn) (present : List ℕ) (said : Said) → Again bytes claim turns present said
     → LeastThatServes (entriesIn count after) turns present said
+
+abbrev pub Demand3 : Type 0
+Demand3 = Demand3Of Reached
 
 -- and there is always a list to speak of: in any well-formed table an ask of a well-formed request that is permitted is done if its buffer has
 -- thirteen bytes for each of the table's slots
@@ -151,7 +157,16 @@ AskIsDone = (bytes : List ℕ) → wellFormed bytes ≡ true → (claim : Claim)
 
 -- numbers are given once: of two grants in a history with no fill between them, whatever was returned or dropped between, the later number is
 -- the greater
-abbrev pub NumbersOnce : Type 0
-NumbersOnce = (bytes : List ℕ) → Reached bytes → (number : ℕ) (after : List ℕ) → Gives bytes number after
+abbrev pub NumbersOnceOf : (List ℕ → Type 0) → Type 0
+NumbersOnceOf reached = (bytes : List ℕ) → reached bytes → (number : ℕ) (after : List ℕ) → Gives bytes number after
     → (calls : List Call) → anyOf isFill calls ≡ false → (later : List ℕ) → Runs calls after later
     → (other : ℕ) (last : List ℕ) → Gives later other last → number < other
+
+abbrev pub NumbersOnce : Type 0
+NumbersOnce = NumbersOnceOf Reached
+
+-- all three hold as well of what calls make of a table to which the audit says yes, wherever its bytes came from
+pub record Resuming : Type 0 where
+  pub demand2 : Demand2Of Resumed
+  pub demand3 : Demand3Of Resumed
+  pub numbers-once : NumbersOnceOf Resumed

@@ -28,7 +28,7 @@ use Rattle.mastarik.specs.Lists.{Checks, decidedFor, GivesRights, Puts, Drops}
 use Rattle.mastarik.specs.Tables.{Fills, Asks, Grants, Returns, DropsHost, Audits}
 use Rattle.mastarik.specs.Types.{TellsNeeds}
 use Rattle.histories.specs.Shape.{Shape, isAnswer, ofCheck, ofRights, ofPut, ofDrop, ofFill, ofAsk, ofGrant, ofReturn, ofDropHost, ofAudit, ofNeeds}
-use Rattle.histories.specs.History.{Return, Call, toFill, toAsk, toGrant, toReturn, toDropHost, toAudit, isFill, RunsBy, Reached}
+use Rattle.histories.specs.History.{Return, Call, toFill, toAsk, toGrant, toReturn, toDropHost, toAudit, isFill, RunsBy, Reached, Resumed}
 use Rattle.histories.specs.Callback.{entriesIn, Turn}
 use Rattle.histories.specs.Demands.{NoTwoConflict, LeastThatServes}
 
@@ -82,6 +82,16 @@ pub record ReachedInC (bytes : List ℕ) : Type 0 where
   pub exports : List Export
   pub runs : ExportRuns exports fresh bytes
 
+-- what any exports make of bytes to which the audit says yes
+pub record ResumedInC (bytes : List ℕ) : Type 0 where
+  pub kept : List ℕ
+  pub lent : Bytes kept
+  pub answer : Answer
+  pub audit : Audits kept answer
+  pub yes : answer .value ≡ 1
+  pub exports : List Export
+  pub runs : ExportRuns exports kept bytes
+
 -- the call that an export makes
 unfoldable pub callOf : Export → Call
 callOf fill = toFill
@@ -91,9 +101,12 @@ callOf (giveBack given) = toReturn given
 callOf (dropHost host) = toDropHost host
 callOf audit = toAudit
 
--- a history of exports is a history
+-- a history of exports is a history, from a fill on or from an audit
 abbrev pub ExportsAreCalls : Type 0
 ExportsAreCalls = (bytes : List ℕ) → ReachedInC bytes → Reached bytes
+
+abbrev pub ResumedAreCalls : Type 0
+ResumedAreCalls = (bytes : List ℕ) → ResumedInC bytes → Resumed bytes
 
 -- 0 and its value, or a refusal that this call can give and its detail; beside them the deciding record, and what is not used is 0
 pub record Answered (s : Shape) (start size : ℕ) (a : Answer) : Type 0 where
@@ -121,8 +134,11 @@ pub record Demand1InC : Type 0 where
   pub drop-host : (bytes after : List ℕ) (host : ℕ) (a : Answer) → DropsHost bytes host a after → EndsInC ofDropHost a bytes after
 
 -- demand 2, of every table that exports reach; and the audit answers 1
+abbrev pub Demand2InCOf : (List ℕ → Type 0) → Type 0
+Demand2InCOf reached = (bytes : List ℕ) → reached bytes → NoTwoConflict bytes × ((a : Answer) → Audits bytes a → (a .refused ≡ 0) × (a .value ≡ 1))
+
 abbrev pub Demand2InC : Type 0
-Demand2InC = (bytes : List ℕ) → ReachedInC bytes → NoTwoConflict bytes × ((a : Answer) → Audits bytes a → (a .refused ≡ 0) × (a .value ≡ 1))
+Demand2InC = Demand2InCOf ReachedInC
 
 -- a return and its answer
 pub record TurnInC : Type 0 where
@@ -147,11 +163,14 @@ pub record AgainInC (bytes : List ℕ) (claim : Claim) (turns : List TurnInC) (p
   pub grant : Grants present claim access a after
 
 -- demand 3, of every table that exports reach: the list is read off the bytes that an ask wrote which answered 0, as many entries as its value
-abbrev pub Demand3InC : Type 0
-Demand3InC = (bytes : List ℕ) → ReachedInC bytes
+abbrev pub Demand3InCOf : (List ℕ → Type 0) → Type 0
+Demand3InCOf reached = (bytes : List ℕ) → reached bytes
     → (claim : Claim) (access : Access) (out : List ℕ) (a : Answer) (after : List ℕ) → Asks bytes claim access out a after → a .refused ≡ 0
     → (turns : List TurnInC) (present : List ℕ) (again : Answer) → AgainInC bytes claim turns present again
     → LeastThatServes (entriesIn (a .value) after) (map turnOf turns) present (saidBy ofGrant again)
+
+abbrev pub Demand3InC : Type 0
+Demand3InC = Demand3InCOf ReachedInC
 
 -- in any well-formed table an ask of a well-formed request that is permitted answers 0 if its buffer has thirteen bytes for each of the table's
 -- slots
@@ -171,7 +190,16 @@ pub record GivesInC (before : List ℕ) (number : ℕ) (after : List ℕ) : Type
   pub number-is : answer .value ≡ number
 
 -- numbers are given once since the fill
-abbrev pub NumbersOnceInC : Type 0
-NumbersOnceInC = (bytes : List ℕ) → ReachedInC bytes → (number : ℕ) (after : List ℕ) → GivesInC bytes number after
+abbrev pub NumbersOnceInCOf : (List ℕ → Type 0) → Type 0
+NumbersOnceInCOf reached = (bytes : List ℕ) → reached bytes → (number : ℕ) (after : List ℕ) → GivesInC bytes number after
     → (exports : List Export) → anyOf isFill (map callOf exports) ≡ false → (later : List ℕ) → ExportRuns exports after later
     → (other : ℕ) (last : List ℕ) → GivesInC later other last → number < other
+
+abbrev pub NumbersOnceInC : Type 0
+NumbersOnceInC = NumbersOnceInCOf ReachedInC
+
+-- and all three of a table to which the audit says yes
+pub record ResumingInC : Type 0 where
+  pub demand2 : Demand2InCOf ResumedInC
+  pub demand3 : Demand3InCOf ResumedInC
+  pub numbers-once : NumbersOnceInCOf ResumedInC

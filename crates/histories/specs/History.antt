@@ -3,6 +3,7 @@ use mathlib.Core.Path.{_≡_}
 use mathlib.Core.Bool.{Bool, true, false}
 use mathlib.Core.List.{List, [], _∷_}
 use Prim.Native.Nat.{ℕ}
+use Rattle.words.specs.Number.{Bytes}
 use Rattle.claims.specs.declared.claim.Claim.{Claim}
 use Rattle.table.specs.Layout.{Fits}
 use Rattle.table.specs.Fill.{Fills}
@@ -72,6 +73,14 @@ pub record Reached (bytes : List ℕ) : Type 0 where
   pub fill : Fills lent Done fresh
   pub calls : List Call
   pub runs : Runs calls fresh bytes
+
+-- what any calls make of bytes to which the audit says yes, such as a table that was kept on disk and is loaded again
+pub record Resumed (bytes : List ℕ) : Type 0 where
+  pub kept : List ℕ
+  pub lent : Bytes kept
+  pub audit : Audits kept true
+  pub calls : List Call
+  pub runs : Runs calls kept bytes
 
 -- a grant that is done, and the number that it gives
 pub data Gives (before : List ℕ) (number : ℕ) (after : List ℕ) : Type 0 where

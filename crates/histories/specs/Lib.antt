@@ -2,4 +2,5 @@ pub mod Shape
 pub mod History
 pub mod Callback
 pub mod Demands
+pub mod Longer
 pub mod Exports
