@@ -3,9 +3,10 @@
  *
  * Every call ends with an answer, or with a refusal by its number; a refusal leaves every lent byte as it was. This
  * holds for any bytes and any numbers, so nothing has to be tested before a call. Where several refusals hold, the one
- * given is the first in the order that the call's comment names. A table that was filled and then changed by these
- * calls alone never holds two tokens that conflict, and since the fill no number is given twice. All this is proved of
- * the raw calls. The easy calls after them make the same calls; they, the readers and the names are plain C, tested.
+ * given is the first in the order that the call's comment names. A table that was filled, or to which the audit said
+ * yes, and then changed by these calls alone never holds two tokens that conflict, and from there on no number is given
+ * twice. All this is proved of the raw calls. The easy calls after them make the same calls; they, the readers and the
+ * names are plain C, tested.
  *
  * What no proof can see, the caller must ensure:
  *
@@ -27,10 +28,10 @@
  * so before a grant's answer is sent. Audit it after loading. A copy older than the last grant gives numbers again that
  * were given since: then fill it, and let every host know that it holds nothing.
  *
- * To move to a larger table there is no call. Either let the tokens come back, or drop their hosts, and fill the larger
- * one: no token carries over, since its number would be given anew. Or copy: the bytes of a well-formed table and after
- * them 41 zero bytes for each new slot, up to 1,024 slots in all, are a well-formed table with the same tokens, and the
- * audit says of it what it said before.
+ * To move to a larger table there is no call: append 41 zero bytes for each new slot, up to 1,024 slots in all. A table
+ * that is well formed stays so, with the same tokens and the same next number, and the audit says of it what it said
+ * before. Or begin anew: let the tokens come back, or drop their hosts, and fill the larger one; then no token carries
+ * over, and numbers are given anew.
  */
 #ifndef MASTARIK_H
 #define MASTARIK_H
@@ -528,7 +529,7 @@ static inline const char *mastarik_refusal_text(uint32_t refused)
     switch (refused) {
     case 0: return "done";
     case MASTARIK_LIST_TOO_LONG: return "list over 4,096 bytes";
-    case MASTARIK_NO_DEFAULT_REALM: return "the list does not begin with a default realm";
+    case MASTARIK_NO_DEFAULT_REALM: return "the list does not begin with default_realm";
     case MASTARIK_UNKNOWN_KIND: return "unknown kind";
     case MASTARIK_CUT_SHORT: return "body cut short";
     case MASTARIK_RIGHTS_ABOVE_63: return "rights above 63";
@@ -588,7 +589,7 @@ static inline const char *mastarik_right_name(uint8_t right)
 static inline const char *mastarik_kind_name(uint8_t kind)
 {
     switch (kind) {
-    case MASTARIK_DEFAULT_REALM: return "default realm";
+    case MASTARIK_DEFAULT_REALM: return "default_realm";
     case MASTARIK_USER_OBJ: return "user_obj";
     case MASTARIK_GROUP_OBJ: return "group_obj";
     case MASTARIK_OTHER_OBJ: return "other_obj";
