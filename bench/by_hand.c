@@ -1,4 +1,4 @@
-/* The ten calls by hand, for a little-endian machine: lists and rights, then edits, then the token table. */
+/* The calls by hand, for a little-endian machine: lists and rights, then edits, then the token table. */
 #include "by_hand.h"
 
 #include <stdbool.h>
@@ -311,6 +311,22 @@ mastarik_answer by_hand_rights(const uint8_t *list, size_t list_length, const ui
     return rights(&(struct access){list, list_length, groups, group_count, &caller, &file});
 }
 
+/* The first record fills the list's first bytes, the objects follow in order of their kinds. */
+mastarik_answer by_hand_new_list(const uint8_t *realm, uint8_t user_obj, uint8_t group_obj, uint8_t other_obj,
+                                 uint8_t *out, size_t out_length)
+{
+    uint8_t list[] = {DEFAULT_REALM, 0, 0, 0, 0, 0, 0, 0, 0, 0, 0, 0, 0, 0, 0, 0, 0,
+                      USER_OBJ, user_obj, GROUP_OBJ, group_obj, OTHER_OBJ, other_obj};
+    memcpy(list + 1, realm, REALM_SIZE);
+    mastarik_answer answer = by_hand_check(list, sizeof list);
+    if (answer.refused)
+        return answer;
+    if (out_length < sizeof list)
+        return refuse(MASTARIK_OUTPUT_TOO_SHORT, 0);
+    memcpy(out, list, sizeof list);
+    return (mastarik_answer){.value = sizeof list};
+}
+
 /* Writes an entry as a record, with those of its numbers that its kind has, and gives the size. */
 static size_t write_record(uint8_t *record, const mastarik_entry *entry)
 {
@@ -530,6 +546,11 @@ static unsigned needed_rights(unsigned types, bool dir)
     if (types & writing)
         needed |= dir ? MASTARIK_INSERT | MASTARIK_DELETE : MASTARIK_WRITE;
     return needed;
+}
+
+mastarik_answer by_hand_needs(uint16_t types, uint8_t dir)
+{
+    return (mastarik_answer){.value = needed_rights(types, dir != 0)};
 }
 
 /* The refusals that ask and grant share, from 30 down to 24. */

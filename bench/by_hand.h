@@ -1,5 +1,5 @@
-/* The ten calls written by hand in plain C from the paper (01) alone: what the library is compared with, in its
- * answers and in its cost. Arguments and answers are those of mastarik.h.
+/* The calls written by hand in plain C from the rules alone: what the library is compared with, in its answers and in
+ * its cost. Arguments and answers are those of mastarik.h.
  */
 #ifndef BY_HAND_H
 #define BY_HAND_H
@@ -10,6 +10,11 @@ mastarik_answer by_hand_check(const uint8_t *list, size_t list_length);
 
 mastarik_answer by_hand_rights(const uint8_t *list, size_t list_length, const uint32_t *groups, size_t group_count,
                                mastarik_caller caller, mastarik_file file);
+
+mastarik_answer by_hand_needs(uint16_t types, uint8_t dir);
+
+mastarik_answer by_hand_new_list(const uint8_t *realm, uint8_t user_obj, uint8_t group_obj, uint8_t other_obj,
+                                 uint8_t *out, size_t out_length);
 
 mastarik_answer by_hand_put_entry(const uint8_t *list, size_t list_length, mastarik_entry entry, uint8_t *out,
                                   size_t out_length);

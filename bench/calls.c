@@ -6,6 +6,8 @@
 struct calls {
     mastarik_answer (*check)(const uint8_t *, size_t);
     mastarik_answer (*rights)(const uint8_t *, size_t, const uint32_t *, size_t, mastarik_caller, mastarik_file);
+    mastarik_answer (*needs)(uint16_t, uint8_t);
+    mastarik_answer (*new_list)(const uint8_t *, uint8_t, uint8_t, uint8_t, uint8_t *, size_t);
     mastarik_answer (*put_entry)(const uint8_t *, size_t, mastarik_entry, uint8_t *, size_t);
     mastarik_answer (*drop_entry)(const uint8_t *, size_t, mastarik_entry, uint8_t *, size_t);
     mastarik_answer (*fill)(uint8_t *, size_t);
@@ -19,10 +21,11 @@ struct calls {
 };
 
 static const struct calls calls_of[SIDES] = {
-    [LIBRARY] = {mastarik_check, mastarik_rights, mastarik_put_entry, mastarik_drop_entry, mastarik_fill, mastarik_ask,
-                 mastarik_grant, mastarik_return, mastarik_drop_host, mastarik_audit},
-    [BY_HAND] = {by_hand_check, by_hand_rights, by_hand_put_entry, by_hand_drop_entry, by_hand_fill, by_hand_ask,
-                 by_hand_grant, by_hand_return, by_hand_drop_host, by_hand_audit},
+    [LIBRARY] = {mastarik_check, mastarik_rights, mastarik_needs, mastarik_new_list, mastarik_put_entry,
+                 mastarik_drop_entry, mastarik_fill, mastarik_ask, mastarik_grant, mastarik_return,
+                 mastarik_drop_host, mastarik_audit},
+    [BY_HAND] = {by_hand_check, by_hand_rights, by_hand_needs, by_hand_new_list, by_hand_put_entry, by_hand_drop_entry,
+                 by_hand_fill, by_hand_ask, by_hand_grant, by_hand_return, by_hand_drop_host, by_hand_audit},
 };
 
 mastarik_answer make_call(enum side side, enum call call, const struct input *in, const struct lent *at)
@@ -33,6 +36,11 @@ mastarik_answer make_call(enum side side, enum call call, const struct input *in
         return calls->check(at->list, in->list_length);
     case RIGHTS:
         return calls->rights(at->list, in->list_length, at->groups, in->group_count, in->caller, in->file);
+    case NEEDS:
+        return calls->needs(in->types, in->file.dir);
+    case NEW_LIST:
+        return calls->new_list(in->entry.realm, in->objects[0], in->objects[1], in->objects[2], at->out,
+                               in->out_length);
     case PUT_ENTRY:
         return calls->put_entry(at->list, in->list_length, in->entry, at->out, in->out_length);
     case DROP_ENTRY:

@@ -1,4 +1,4 @@
-/* The ten calls of both sides, the library's and those by hand, to be made by number on one form of input. */
+/* The calls of both sides, the library's and those by hand, to be made by number on one form of input. */
 #ifndef CALLS_H
 #define CALLS_H
 
@@ -6,7 +6,7 @@
 
 enum side { LIBRARY, BY_HAND, SIDES };
 
-enum call { CHECK, RIGHTS, PUT_ENTRY, DROP_ENTRY, FILL, ASK, GRANT, RETURN, DROP_HOST, AUDIT, CALLS };
+enum call { CHECK, RIGHTS, NEEDS, NEW_LIST, PUT_ENTRY, DROP_ENTRY, FILL, ASK, GRANT, RETURN, DROP_HOST, AUDIT, CALLS };
 
 enum { LIST_ROOM = 4200, GROUP_ROOM = 34 };
 enum { TABLE_ROOM = MASTARIK_SLOT_SIZE * 1026, OUT_ROOM = MASTARIK_CALL_BACK_SIZE * 1030 };
@@ -20,7 +20,8 @@ struct input {
     size_t list_length, table_length, out_length, group_count;
     mastarik_caller caller;
     mastarik_file file;
-    mastarik_entry entry;
+    mastarik_entry entry; /* a new list has its realm as well */
+    uint8_t objects[3];   /* the rights of a new list's three objects */
     mastarik_claim claim;
     uint16_t host;
     uint64_t number;

@@ -2,15 +2,18 @@
 #include <inttypes.h>
 #include <stdio.h>
 #include <stdlib.h>
+#include <string.h>
 
 #include "draw.h"
 #include "histories.h"
 #include "inputs.h"
+#include "readers.h"
 
 /* The refusals that a run must bring up, call by call; 0 ends a row. */
 static const uint8_t refusals[CALLS][20] = {
     [CHECK] = {10, 11, 12, 13, 14, 15, 16, 17, 18, 19},
     [RIGHTS] = {10, 11, 12, 13, 14, 15, 16, 17, 18, 19, 22, 23},
+    [NEW_LIST] = {14, 16, 19, 21},
     [PUT_ENTRY] = {10, 11, 12, 13, 14, 15, 16, 17, 18, 19, 21},
     [DROP_ENTRY] = {10, 11, 12, 13, 14, 15, 16, 17, 18, 19, 20, 21},
     [FILL] = {30},
@@ -55,6 +58,7 @@ static void compare_check(void)
     mastarik_answer answer = lockstep(CHECK, &input);
     if (passing)
         expect(answer.refused == 0, "a list that passes is refused", &input);
+    compare_walk(&input, passing);
 }
 
 static void compare_rights(void)
@@ -66,6 +70,17 @@ static void compare_rights(void)
         decided[answer.length ? input.list[answer.start] : 0]++;
 }
 
+/* Every set of types, with bits above them. */
+static void compare_needs(void)
+{
+    input.file.dir = (uint8_t)(draw_chance(50) ? draw_below(2) : draw());
+    unsigned above = (unsigned)(draw_chance(50) ? 0 : draw_below(256)) << 8;
+    for (unsigned types = 0; types < 256; types++) {
+        input.types = (uint16_t)(above | types);
+        lockstep(NEEDS, &input);
+    }
+}
+
 /* An output buffer just long enough, one byte or a unit short, empty, or longer. */
 static void make_out(size_t needed, size_t unit)
 {
@@ -73,6 +88,30 @@ static void make_out(size_t needed, size_t unit)
                               needed + 1, needed + draw_below(40)};
     input.out_length = lengths[draw_below(7)];
     draw_bytes(input.out, input.out_length);
+}
+
+static void compare_new_list(void)
+{
+    make_new_list(&input);
+    make_out(MASTARIK_NEW_LIST_SIZE, 2);
+    mastarik_answer answer = lockstep(NEW_LIST, &input);
+    if (answer.refused == 0)
+        expect(mastarik_check(input.out, answer.value).refused == 0, "a new list does not pass", &input);
+}
+
+/* A record that the list has, put once more as the walk reads it, changes nothing. */
+static void put_again(void)
+{
+    mastarik_record record = {0};
+    uint64_t left = draw_below(40);
+    while (left > 0 && mastarik_next_record(input.list, input.list_length, &record))
+        left--;
+    input.entry = record.entry;
+    input.out_length = input.list_length;
+    mastarik_answer answer = lockstep(PUT_ENTRY, &input);
+    if (record.entry.kind > MASTARIK_DEFAULT_REALM)
+        expect(answer.value == input.list_length && memcmp(input.out, input.list, input.list_length) == 0,
+               "a record of the list put again changes it", &input);
 }
 
 static void compare_edit(void)
@@ -90,6 +129,7 @@ static void compare_edit(void)
     if (passing) {
         tally_add(tally, answer);
         tally_add(tally, again);
+        put_again();
     }
 }
 
@@ -123,6 +163,7 @@ static void compare_request(void)
     draw_bytes(input.out, input.out_length);
     mastarik_answer answer = lockstep(ASK, &input);
     expect(well_formed == (answer.refused != MASTARIK_TABLE_NOT_WELL_FORMED), "30 at the wrong time", &input);
+    compare_call_backs(&input, answer.value);
     make_out(answer.value * MASTARIK_CALL_BACK_SIZE, MASTARIK_CALL_BACK_SIZE);
     lockstep(ASK, &input);
     lockstep(GRANT, &input);
@@ -154,6 +195,11 @@ static void compare_audit(void)
     if (!well_formed || calm)
         expect(answer.value == well_formed, "the audit's answer is wrong", &input);
     audits_yes += answer.value;
+    if (!well_formed)
+        return;
+    enlarge_table(&input);
+    expect(lockstep(AUDIT, &input).value == answer.value, "an audit says something else of a larger copy", &input);
+    compare_tokens(&input);
 }
 
 static void compare_history(void)
@@ -169,6 +215,8 @@ static const struct {
 } groups[] = {
     {"lists", compare_check, 100},
     {"rights", compare_rights, 100},
+    {"needs", compare_needs, 1},
+    {"new lists", compare_new_list, 30},
     {"edits", compare_edit, 150},
     {"requests", compare_request, 150},
     {"upkeep", compare_upkeep, 150},
@@ -202,6 +250,7 @@ static unsigned print_summary(void)
         missing += print_tally(call_names[call], lockstep_tally(call), refusals[call]);
     missing += print_tally("put entry, list passing", &puts_to_passing, put_refusals);
     missing += print_tally("drop entry, list passing", &drops_from_passing, drop_refusals);
+    missing += lockstep_print_empty();
     printf("rights decided by no record: %" PRIu64 "; by kind:", decided[0]);
     for (int kind = 2; kind < 12; kind++)
         printf(" %d x %" PRIu64, kind, decided[kind]);
@@ -224,6 +273,9 @@ int main(int count, char **arguments)
             groups[group].round();
         }
     }
+    lockstep_begin("texts", seed, 0);
+    compare_texts();
+    compare_fixed();
     unsigned missing = print_summary();
     printf(missing ? "some refusals never came up\n" : "equal throughout, each refusal seen\n");
     return missing ? EXIT_FAILURE : EXIT_SUCCESS;

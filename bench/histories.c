@@ -15,16 +15,6 @@ static void expect_audit(struct input *in)
     expect(lockstep(AUDIT, in).value == 1, "the audit of a table reached from fill says no", in);
 }
 
-/* Reads an entry of ask's list into what return takes. */
-static void read_entry(struct input *in, const uint8_t *entry)
-{
-    in->number = 0;
-    for (size_t i = 1; i <= 8; i++)
-        in->number = in->number << 8 | entry[i];
-    in->host = (uint16_t)(entry[9] << 8 | entry[10]);
-    in->types = (uint16_t)(entry[11] << 8 | entry[12]);
-}
-
 /* On a copy of the table, returns what ask listed in random order, an entry or one of its types at a time: grant is
  * refused with 32 exactly until the last is back.
  */
@@ -33,8 +23,12 @@ static void follow_ask(size_t count, struct history_counts *counts)
     scratch = input;
     for (size_t left = count; left > 0;) {
         expect(lockstep(GRANT, &scratch).refused == MASTARIK_CONFLICT, "granted before all came back", &scratch);
-        uint8_t *entry = scratch.out + ENTRY_SIZE * draw_below(left);
-        read_entry(&scratch, entry);
+        size_t chosen = draw_below(left);
+        uint8_t *entry = scratch.out + ENTRY_SIZE * chosen;
+        mastarik_call_back call_back = mastarik_call_back_at(scratch.out, chosen);
+        scratch.number = call_back.number;
+        scratch.host = call_back.host;
+        scratch.types = call_back.types;
         if (draw_chance(50))
             scratch.types &= -scratch.types; /* the lowest of them alone */
         expect(lockstep(RETURN, &scratch).refused == 0, "what ask lists cannot be returned", &scratch);

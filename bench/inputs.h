@@ -10,6 +10,12 @@ void make_list(struct input *input, bool generous);
 /* A list that passes, of 4,063 to 4,095 bytes; none of 4,096 can, as only the first record's size is odd. */
 void make_long_list(struct input *input);
 
+/* Writes an entry as a record after the list. */
+void append_record(struct input *input, const mastarik_entry *entry);
+
+/* Realm and objects of a new list; not all of them can stand. */
+void make_new_list(struct input *input);
+
 /* Damages a list, or a part of it: not every damage leads to a refusal. */
 void damage_list(struct input *input);
 
@@ -27,6 +33,15 @@ void make_claim(struct input *input, bool sound);
 
 /* A well formed table of so many slots; in a calm one numbers differ and nothing conflicts. */
 void make_table(struct input *input, size_t slots, bool calm);
+
+/* Writes a token as the bytes of its slot. */
+void put_token(uint8_t *slot, const mastarik_token *token);
+
+/* Writes a token to call back as the bytes of its entry. */
+void put_call_back(uint8_t *entry, const mastarik_call_back *call_back);
+
+/* Adds free slots to a well formed table, as one does who moves to a larger one. */
+void enlarge_table(struct input *input);
 
 /* Makes a well formed table one that is not. */
 void damage_table(struct input *input);

@@ -61,20 +61,28 @@ static void remove_bytes(struct input *in, size_t place, size_t length)
     in->list_length -= length;
 }
 
-static void append(struct input *in, uint8_t kind, const uint8_t *realm, uint32_t id, uint8_t rights)
+void append_record(struct input *in, const mastarik_entry *entry)
 {
-    uint8_t record[22] = {kind};
+    uint8_t kind = entry->kind, record[22] = {kind};
     size_t length = 1;
     if (kind == 1 || kind >= 9) {
-        memcpy(record + length, realm, 16);
+        memcpy(record + length, entry->realm, 16);
         length += 16;
     }
     if (kind >= 7 && kind <= 10)
         for (int shift = 24; shift >= 0; shift -= 8)
-            record[length++] = (uint8_t)(id >> shift);
+            record[length++] = (uint8_t)(entry->id >> shift);
     if (kind != 1)
-        record[length++] = rights;
+        record[length++] = entry->rights;
     insert_bytes(in, in->list_length, record, length);
+}
+
+static void append(struct input *in, uint8_t kind, const uint8_t *realm, uint32_t id, uint8_t rights)
+{
+    mastarik_entry entry = {.kind = kind, .rights = rights, .id = id};
+    if (realm != NULL)
+        memcpy(entry.realm, realm, sizeof entry.realm);
+    append_record(in, &entry);
 }
 
 /* The records of kinds 7 to 11, each of those that may stand with the given chance. */
@@ -125,6 +133,15 @@ void make_long_list(struct input *in)
     uint32_t step = 1 + (uint32_t)draw_below(UINT32_MAX / 700);
     for (uint32_t i = 0; i < records; i++)
         append(in, i < users ? 7 : 8, NULL, i * step, draw_rights(true));
+}
+
+void make_new_list(struct input *in)
+{
+    memcpy(in->entry.realm, draw_realm(), sizeof in->entry.realm);
+    for (size_t i = 0; i < sizeof in->objects; i++)
+        in->objects[i] = (uint8_t)(draw_chance(90) ? draw_below(64) : draw());
+    if (draw_chance(80))
+        in->objects[0] |= MASTARIK_CONTROL;
 }
 
 /* The place of a record, drawn from those up to the first that cannot be read; an empty list gives 0. */

@@ -9,9 +9,10 @@
 #include <string.h>
 
 #include "draw.h"
+#include "easy.h"
 
-const char *const call_names[CALLS] = {"check", "rights", "put entry", "drop entry", "fill",
-                                       "ask",   "grant",  "return",    "drop host",  "audit"};
+const char *const call_names[CALLS] = {"check", "rights", "needs", "new list", "put entry", "drop entry",
+                                       "fill",  "ask",    "grant", "return",   "drop host", "audit"};
 
 static const char *const side_names[SIDES] = {"library", "by hand"};
 
@@ -25,6 +26,8 @@ static const struct {
 } uses[CALLS] = {
     [CHECK] = {1 << LIST, 0},
     [RIGHTS] = {1 << LIST | 1 << GROUPS, 0},
+    [NEEDS] = {0, 0},
+    [NEW_LIST] = {1 << OUT, 1 << OUT},
     [PUT_ENTRY] = {1 << LIST | 1 << OUT, 1 << OUT},
     [DROP_ENTRY] = {1 << LIST | 1 << OUT, 1 << OUT},
     [FILL] = {1 << TABLE, 1 << TABLE},
@@ -46,6 +49,7 @@ struct room {
 
 static struct room rooms[SIDES][BUFFERS];
 static struct tally tallies[CALLS];
+static uint64_t empty[BUFFERS];
 static mastarik_answer answers[SIDES];
 static enum call last_call;
 static const char *group_name;
@@ -105,6 +109,7 @@ static void print_numbers(const struct input *in)
     print_hex("local realm", file->realm, sizeof file->realm);
     printf("entry: kind %d, id %" PRIu32 ", rights %d\n", entry->kind, entry->id, entry->rights);
     print_hex("entry's realm", entry->realm, sizeof entry->realm);
+    printf("objects: %d, %d, %d\n", in->objects[0], in->objects[1], in->objects[2]);
     printf("claim: types %d, host %d, first %" PRIu64 ", last %" PRIu64 "\n", claim->types, claim->host, claim->first,
            claim->last);
     print_hex("claim's file", claim->file, sizeof claim->file);
@@ -173,6 +178,18 @@ const struct tally *lockstep_tally(enum call call)
     return &tallies[call];
 }
 
+unsigned lockstep_print_empty(void)
+{
+    unsigned never = 0;
+    printf("lent as NULL:");
+    for (enum buffer buffer = 0; buffer < BUFFERS; buffer++) {
+        printf(" %s x %" PRIu64, buffer_names[buffer], empty[buffer]);
+        never += empty[buffer] == 0;
+    }
+    printf("\n");
+    return never;
+}
+
 void lockstep_begin(const char *group, uint64_t seed, uint64_t round)
 {
     group_name = group;
@@ -195,13 +212,16 @@ mastarik_answer lockstep(enum call call, struct input *input)
             .out = rooms[side][OUT].start,
             .groups = (const uint32_t *)(const void *)rooms[side][GROUPS].start,
         };
-        answers[side] = make_call(side, call, input, &lent);
+        answers[side] = side == LIBRARY ? make_easy_call(call, input, &lent) : make_call(side, call, input, &lent);
     }
     expect(same_answer(answers[LIBRARY], answers[BY_HAND]), "the answers differ", input);
-    expect(answers[LIBRARY].refused <= MASTARIK_TYPE_LACKING, "not a refusal of the paper", input);
-    for (enum buffer buffer = 0; buffer < BUFFERS; buffer++)
-        if (uses[call].lent & 1u << buffer)
-            compare_buffer(input, buffer);
+    expect(answers[LIBRARY].refused <= MASTARIK_TYPE_LACKING, "not a refusal of the rules", input);
+    for (enum buffer buffer = 0; buffer < BUFFERS; buffer++) {
+        if (!(uses[call].lent & 1u << buffer))
+            continue;
+        compare_buffer(input, buffer);
+        empty[buffer] += buffer_length(input, buffer) == 0;
+    }
     tally_add(&tallies[call], answers[LIBRARY]);
     return answers[LIBRARY];
 }

@@ -1,4 +1,6 @@
-/* Makes one call of the library and of the code by hand on equal input, and ends the program where they differ. */
+/* Makes one call of the library, by its easy call, and of the code by hand on equal input, and ends the program where
+ * they differ.
+ */
 #ifndef LOCKSTEP_H
 #define LOCKSTEP_H
 
@@ -18,6 +20,9 @@ void tally_add(struct tally *tally, mastarik_answer answer);
 
 /* The tally of a call over the whole run. */
 const struct tally *lockstep_tally(enum call call);
+
+/* Prints how often each buffer was lent as NULL, and gives how many of them never were. */
+unsigned lockstep_print_empty(void);
 
 /* Says what is being tested, for the report of a difference. */
 void lockstep_begin(const char *group, uint64_t seed, uint64_t round);

@@ -71,6 +71,7 @@ static const struct row rows[] = {
     {.name = "rights by 5 groups, 4095 bytes", .call = RIGHTS, .home = 678, .who = BY_GROUPS},
     {.name = "rights by 5 groups, 399 bytes, foreign", .call = RIGHTS, .foreign = 17, .who = STRANGER},
     {.name = "rights by 5 groups, 4095 bytes, foreign", .call = RIGHTS, .foreign = 185, .who = STRANGER},
+    {.name = "needs, all types", .call = NEEDS},
     {.name = "put entry, 31 bytes", .call = PUT_ENTRY, .home = 1},
     {.name = "put entry, 399 bytes", .call = PUT_ENTRY, .home = 62},
     {.name = "put entry, 4095 bytes", .call = PUT_ENTRY, .home = 678},
@@ -140,7 +141,7 @@ static size_t users_of(const struct row *row)
     return (row->home + 1u) / 2;
 }
 
-/* The paper's list E, with any_other and further records where the row wants more than E's one. */
+/* The rules' list E, with any_other and further records where the row wants more than E's one. */
 static void prepare_list(const struct row *row)
 {
     static const uint8_t objects[] = {2, 15, 3, 5, 4, 4, 5, 3, 6, 1};
@@ -214,6 +215,7 @@ static void prepare(const struct row *row)
     prepare_list(row);
     prepare_caller(row);
     prepare_entry(row);
+    input.types = 255;
     if (row->slots) {
         prepare_table(row);
         prepare_claim(row);

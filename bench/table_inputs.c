@@ -109,15 +109,23 @@ static void calm_claim(mastarik_claim *claim, enum calm calm, size_t slot)
     claim->last = slot * 3 + draw_below(3);
 }
 
-static void put_slot(uint8_t *slot, const mastarik_claim *claim, uint64_t number)
+void put_token(uint8_t *slot, const mastarik_token *token)
 {
     slot[0] = 1;
-    put_number(slot + TYPES_AT, 2, claim->types);
-    put_number(slot + HOST_AT, 2, claim->host);
-    memcpy(slot + FILE_AT, claim->file, sizeof claim->file);
-    put_number(slot + FIRST_AT, 8, claim->first);
-    put_number(slot + LAST_AT, 8, claim->last);
-    put_number(slot + NUMBER_AT, 8, number);
+    put_number(slot + TYPES_AT, 2, token->claim.types);
+    put_number(slot + HOST_AT, 2, token->claim.host);
+    memcpy(slot + FILE_AT, token->claim.file, sizeof token->claim.file);
+    put_number(slot + FIRST_AT, 8, token->claim.first);
+    put_number(slot + LAST_AT, 8, token->claim.last);
+    put_number(slot + NUMBER_AT, 8, token->number);
+}
+
+void put_call_back(uint8_t *entry, const mastarik_call_back *call_back)
+{
+    entry[0] = 3;
+    put_number(entry + 1, 8, call_back->number);
+    put_number(entry + 9, 2, call_back->host);
+    put_number(entry + 11, 2, call_back->types);
 }
 
 static void put_tokens(struct input *in, size_t slots, uint64_t base, unsigned free_share, bool calm)
@@ -126,11 +134,12 @@ static void put_tokens(struct input *in, size_t slots, uint64_t base, unsigned f
     for (size_t slot = 0; slot < slots; slot++) {
         if (draw_chance(free_share))
             continue;
-        mastarik_claim claim;
-        draw_claim(&claim);
-        calm_claim(&claim, way, slot);
+        mastarik_token token;
+        draw_claim(&token.claim);
+        calm_claim(&token.claim, way, slot);
         bool distinct = calm || draw_chance(70);
-        put_slot(in->table + SLOT_SIZE * (1 + slot), &claim, base + (distinct ? slots - 1 - slot : draw_below(slots)));
+        token.number = base + (distinct ? slots - 1 - slot : draw_below(slots));
+        put_token(in->table + SLOT_SIZE * (1 + slot), &token);
     }
 }
 
@@ -149,6 +158,14 @@ void make_table(struct input *in, size_t slots, bool calm)
     in->table[0] = 2;
     put_number(in->table + NUMBER_AT, 8, next);
     put_tokens(in, slots, base, free_share, calm);
+}
+
+void enlarge_table(struct input *in)
+{
+    size_t left = MASTARIK_SLOT_LIMIT - mastarik_slot_count(in->table_length);
+    size_t added = SLOT_SIZE * (draw_chance(2) ? left : draw_below(left < 40 ? left + 1 : 41));
+    memset(in->table + in->table_length, 0, added);
+    in->table_length += added;
 }
 
 /* A slot drawn from those with a token, or NULL. */

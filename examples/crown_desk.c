@@ -1,14 +1,13 @@
 /* A crown desk's day at a case server: each line printed tells what a call answered. An answer that is not the expected
- * one ends the program with 1, so the day is a test as well. "The paper" is 01.
+ * one ends the program with 1, so the day is a test as well.
  */
 #include <inttypes.h>
+#include <mastarik.h>
 #include <stdio.h>
 #include <stdlib.h>
 #include <string.h>
 
-#include "mastarik.h"
-
-/* The paper's realm R, and another. */
+/* The lab's realm, and another. */
 #define LAB 17, 17, 17, 17, 17, 17, 17, 17, 17, 17, 17, 17, 17, 17, 17, 17
 #define ELSEWHERE 34, 34, 34, 34, 34, 34, 34, 34, 34, 34, 34, 34, 34, 34, 34, 34
 
@@ -35,13 +34,9 @@ static const struct station crown_desk = {"crown desk", 3, {{LAB}, 9, 4}, {0}, 0
 static const struct station visitor = {"visiting designer", 4, {{ELSEWHERE}, 9, 6}, {0}, 0};
 static const struct station *const stations[] = {&design_station, &mill, &crown_desk, &visitor};
 
-static const char *const right_names[] = {"read", "write", "execute", "control", "insert", "delete"};
-static const char *const type_names[] = {"data read", "data write", "status read", "status write",
-                                         "lock read", "lock write", "open shared", "open exclusive"};
-
-/* Every case is the crown desk's, owner 9 and group 4, and one list guards them all: the paper's list E, once built. */
-static const mastarik_file case_file = {9, 4, 0, 0, {0}, 0};
-static const uint8_t list_e[] = {
+/* Every case is the crown desk's, owner 9 and group 4, and one list guards them all, this one once it is built. */
+static const mastarik_file case_file = {.owner = 9, .group = 4};
+static const uint8_t case_list[] = {
     MASTARIK_DEFAULT_REALM, LAB,
     MASTARIK_USER_OBJ, 15,
     MASTARIK_GROUP_OBJ, 5,
@@ -49,7 +44,7 @@ static const uint8_t list_e[] = {
     MASTARIK_MASK_OBJ, 3,
     MASTARIK_USER, 0, 0, 0, 7, 7,
 };
-static uint8_t list[4096];
+static uint8_t list[MASTARIK_LIST_LIMIT];
 static size_t list_length;
 static uint8_t table[MASTARIK_SLOT_SIZE * (1 + SLOTS)];
 
@@ -63,25 +58,31 @@ static void expect(const char *what, uint64_t found, uint64_t expected)
     }
 }
 
-/* The refusals that the day meets, in words. */
-static const char *refusal_name(uint32_t refused)
+/* What a station is judged by. */
+static mastarik_access access_of(const struct station *who)
 {
-    switch (refused) {
-    case MASTARIK_MASK_MISSING: return "no mask_obj";
-    case MASTARIK_RIGHT_MISSING: return "a needed right is missing";
-    case MASTARIK_CONFLICT: return "a conflict exists";
-    case MASTARIK_TYPE_LACKING: return "a type that the token lacks";
-    default: return "not met today";
-    }
+    return (mastarik_access){
+        .list = list,
+        .list_length = list_length,
+        .groups = who->groups,
+        .group_count = who->group_count,
+        .caller = who->caller,
+        .file = case_file,
+    };
+}
+
+static const char *right_name(uint16_t right)
+{
+    return mastarik_right_name((uint8_t)right);
 }
 
 /* Prints a set of rights or of types: the name of each bit. */
-static void print_set(uint64_t bits, const char *const *names)
+static void print_set(uint64_t set, const char *(*name)(uint16_t))
 {
     const char *comma = "";
-    for (int i = 0; bits >> i != 0; i++) {
-        if ((bits >> i) & 1) {
-            printf("%s%s", comma, names[i]);
+    for (unsigned bit = 1; bit <= set; bit <<= 1) {
+        if (set & bit) {
+            printf("%s%s", comma, name((uint16_t)bit));
             comma = ", ";
         }
     }
@@ -95,7 +96,8 @@ static void edit(edit_call *call, uint8_t kind, uint32_t id, uint8_t rights, uin
     mastarik_answer answer = call(list, list_length, entry, edited, sizeof edited);
     expect("refusal of an edit", answer.refused, refused);
     if (refused != 0) {
-        printf("refused with %" PRIu32 ", %s, at place %" PRIu64 ".\n", refused, refusal_name(refused), answer.detail);
+        printf("refused with %" PRIu32 ", %s, at place %" PRIu64 ".\n", refused, mastarik_refusal_text(refused),
+               answer.detail);
         return;
     }
     list_length = answer.value;
@@ -106,7 +108,8 @@ static void edit(edit_call *call, uint8_t kind, uint32_t id, uint8_t rights, uin
 /* Prints a user's rights on a case, and the deciding record: a part of the list, its rights in its last byte. */
 static void show_rights(const char *time, const struct station *who, uint64_t rights)
 {
-    mastarik_answer answer = mastarik_rights(list, list_length, who->groups, who->group_count, who->caller, case_file);
+    mastarik_access access = access_of(who);
+    mastarik_answer answer = mastarik_easy_rights(&access);
     expect("refusal of rights", answer.refused, 0);
     expect("rights", answer.value, rights);
     printf("%s  The %s's rights are %" PRIu64, time, who->name, answer.value);
@@ -120,10 +123,10 @@ static void show_rights(const char *time, const struct station *who, uint64_t ri
         printf(" %d", record[i]);
     }
     printf(".\n       It says ");
-    print_set(record[answer.length - 1], right_names);
+    print_set(record[answer.length - 1], right_name);
     int is_masked = record[0] != MASTARIK_USER_OBJ && record[0] != MASTARIK_OTHER_OBJ;
     printf("; %s ", is_masked ? "the mask leaves" : "unmasked, it gives");
-    print_set(answer.value, right_names);
+    print_set(answer.value, right_name);
     printf(".\n");
 }
 
@@ -134,14 +137,13 @@ static void settle(const char *what, mastarik_answer answer, uint32_t refused, c
     if (refused != 0) {
         expect("change by a refusal", memcmp(before, table, sizeof table) != 0, 0);
         printf("refused with %" PRIu32 ", %s; the table's %zu bytes are as they were.\n", refused,
-               refusal_name(refused), sizeof table);
+               mastarik_refusal_text(refused), sizeof table);
     }
 }
 
 static mastarik_claim claim_of(const struct station *who, uint16_t types, uint8_t number, uint64_t first, uint64_t last)
 {
-    mastarik_claim claim = {types, who->host, {0, 0, 0, 0, 0, 0, 0, 0, 0, 0, 0, number}, first, last};
-    return claim;
+    return (mastarik_claim){.types = types, .host = who->host, .file = {[11] = number}, .first = first, .last = last};
 }
 
 /* Claims a token for a station, and prints it or the refusal. */
@@ -149,12 +151,12 @@ static uint64_t grant(const struct station *who, mastarik_claim claim, uint32_t 
 {
     uint8_t before[sizeof table];
     memcpy(before, table, sizeof table);
-    mastarik_answer answer = mastarik_grant(table, sizeof table, claim, list, list_length, who->groups,
-                                            who->group_count, who->caller, case_file);
+    mastarik_access access = access_of(who);
+    mastarik_answer answer = mastarik_easy_grant(table, sizeof table, claim, &access);
     settle("refusal of a grant", answer, refused, before);
     if (refused == 0) {
         printf("token %" PRIu64 ", bytes %" PRIu64 " to %" PRIu64 ", ", answer.value, claim.first, claim.last);
-        print_set(claim.types, type_names);
+        print_set(claim.types, mastarik_type_name);
         printf(".\n");
     }
     return answer.value;
@@ -165,65 +167,61 @@ static void give_back(const struct station *who, uint64_t number, uint16_t types
 {
     uint8_t before[sizeof table];
     memcpy(before, table, sizeof table);
-    mastarik_answer answer = mastarik_return(table, sizeof table, who->host, number, types);
+    mastarik_answer answer = mastarik_easy_return(table, sizeof table, who->host, number, types);
     settle("refusal of a return", answer, refused, before);
     if (refused == 0) {
         printf("done.\n");
     }
 }
 
-/* Numbers in the list that ask writes are big-endian. */
-static uint64_t number_at(const uint8_t *bytes, size_t size)
-{
-    uint64_t number = 0;
-    for (size_t i = 0; i < size; i++) {
-        number = (number << 8) | bytes[i];
-    }
-    return number;
-}
-
 /* Asks what is in the way of a claim, and prints it: of so many tokens, these types. Answers the first one's number. */
 static uint64_t ask(const struct station *who, mastarik_claim claim, uint64_t count, uint16_t types)
 {
     uint8_t entries[MASTARIK_CALL_BACK_SIZE * SLOTS];
-    mastarik_answer answer = mastarik_ask(table, sizeof table, claim, list, list_length, who->groups, who->group_count,
-                                          who->caller, case_file, entries, sizeof entries);
+    mastarik_access access = access_of(who);
+    mastarik_answer answer = mastarik_easy_ask(table, sizeof table, claim, &access, entries, sizeof entries);
     expect("refusal of an ask", answer.refused, 0);
     expect("tokens in the way", answer.value, count);
     printf("%" PRIu64 " in all.", count);
     for (uint64_t i = 0; i < count; i++) {
-        const uint8_t *entry = entries + MASTARIK_CALL_BACK_SIZE * i;
-        printf(" Of token %" PRIu64, number_at(entry + 1, 8));
-        printf(" at the %s: ", stations[number_at(entry + 9, 2) - 1]->name);
-        print_set(number_at(entry + 11, 2), type_names);
+        mastarik_call_back back = mastarik_call_back_at(entries, i);
+        printf(" Of token %" PRIu64 " at the %s: ", back.number, stations[back.host - 1]->name);
+        print_set(back.types, mastarik_type_name);
         printf(".");
-        expect("types to call back", number_at(entry + 11, 2), types);
+        expect("types to call back", back.types, types);
     }
     printf("\n");
-    return number_at(entries + 1, 8);
+    return mastarik_call_back_at(entries, 0).number;
 }
 
 static void switch_off(const char *time, const struct station *who, uint64_t slots)
 {
-    mastarik_answer answer = mastarik_drop_host(table, sizeof table, who->host);
+    mastarik_answer answer = mastarik_easy_drop_host(table, sizeof table, who->host);
     expect("slots of a host", answer.value, slots);
     printf("%s  The %s's host is switched off; slots freed: %" PRIu64 ".\n", time, who->name, answer.value);
+}
+
+/* Expects the list as it is to be by day, with nobody's visit in it. */
+static void expect_case_list(void)
+{
+    expect("length of the list", list_length, sizeof case_list);
+    expect("change of the list", memcmp(list, case_list, sizeof case_list) != 0, 0);
 }
 
 /* The list begins without mask_obj and user records; the first of these wants the mask to be there. */
 static void open_the_case(void)
 {
-    list_length = 23;
-    memcpy(list, list_e, list_length);
-    expect("refusal of the list", mastarik_check(list, list_length).refused, 0);
+    const uint8_t lab[16] = {LAB};
+    list_length = mastarik_new_list(lab, 15, 5, 4, list, sizeof list).value;
+    expect("refusal of the list", mastarik_easy_check(list, list_length).refused, 0);
     printf("08:00  The crown desk opens case 1, a crown; its list of %zu bytes passes the check.\n", list_length);
     printf("08:01  User 7, the designer, is put with read, write, execute: ");
-    edit(mastarik_put_entry, MASTARIK_USER, 7, 7, MASTARIK_MASK_MISSING);
+    edit(mastarik_easy_put_entry, MASTARIK_USER, 7, 7, MASTARIK_MASK_MISSING);
     printf("08:02  mask_obj is put with read, write: ");
-    edit(mastarik_put_entry, MASTARIK_MASK_OBJ, 0, READ_WRITE, 0);
+    edit(mastarik_easy_put_entry, MASTARIK_MASK_OBJ, 0, READ_WRITE, 0);
     printf("08:03  User 7 is put once more: ");
-    edit(mastarik_put_entry, MASTARIK_USER, 7, 7, 0);
-    expect("difference from list E", list_length != sizeof list_e || memcmp(list, list_e, sizeof list_e) != 0, 0);
+    edit(mastarik_easy_put_entry, MASTARIK_USER, 7, 7, 0);
+    expect_case_list();
     show_rights("08:05", &crown_desk, 15);
     show_rights("08:05", &design_station, READ_WRITE);
     show_rights("08:05", &mill, MASTARIK_READ);
@@ -232,7 +230,7 @@ static void open_the_case(void)
 /* The design station comes to hold twelve tokens: the crown's design, its notes, and ten other cases. */
 static void design_the_crown(void)
 {
-    expect("refusal of fill", mastarik_fill(table, sizeof table).refused, 0);
+    expect("refusal of fill", mastarik_easy_fill(table, sizeof table).refused, 0);
     printf("08:10  The table of tokens is filled: %zu bytes, %d free slots.\n", sizeof table, SLOTS);
     printf("08:20  The design station opens the crown's design: ");
     grant(&design_station, claim_of(&design_station, TO_MILL | TO_EDIT, CROWN, 0, DESIGN_LAST), 0);
@@ -268,10 +266,10 @@ static uint64_t move_the_seating(void)
 static void receive_the_visitor(mastarik_claim design)
 {
     printf("11:00  mask_obj is put with read alone, for as long as the crown mills: ");
-    edit(mastarik_put_entry, MASTARIK_MASK_OBJ, 0, MASTARIK_READ, 0);
+    edit(mastarik_easy_put_entry, MASTARIK_MASK_OBJ, 0, MASTARIK_READ, 0);
     show_rights("11:05", &visitor, 0);
     printf("11:10  foreign_user 9, the visiting designer, is put with all rights: ");
-    edit(mastarik_put_entry, MASTARIK_FOREIGN_USER, 9, ALL_RIGHTS, 0);
+    edit(mastarik_easy_put_entry, MASTARIK_FOREIGN_USER, 9, ALL_RIGHTS, 0);
     show_rights("11:10", &visitor, MASTARIK_READ);
     printf("11:11  The visiting designer wants to write the design: ");
     grant(&visitor, design, MASTARIK_RIGHT_MISSING);
@@ -281,7 +279,7 @@ static void receive_the_visitor(mastarik_claim design)
 static void let_the_visitor_write(mastarik_claim design)
 {
     printf("12:30  mask_obj is put with read, write: ");
-    edit(mastarik_put_entry, MASTARIK_MASK_OBJ, 0, READ_WRITE, 0);
+    edit(mastarik_easy_put_entry, MASTARIK_MASK_OBJ, 0, READ_WRITE, 0);
     show_rights("12:30", &visitor, READ_WRITE);
     printf("12:31  The visiting designer wants to write the design: ");
     grant(&visitor, design, MASTARIK_CONFLICT);
@@ -303,10 +301,10 @@ int main(void)
     give_back(&mill, token, TO_MILL, 0);
     let_the_visitor_write(redesign);
     printf("17:00  foreign_user 9 is dropped: ");
-    edit(mastarik_drop_entry, MASTARIK_FOREIGN_USER, 9, 0, 0);
-    expect("difference from list E", list_length != sizeof list_e || memcmp(list, list_e, sizeof list_e) != 0, 0);
+    edit(mastarik_easy_drop_entry, MASTARIK_FOREIGN_USER, 9, 0, 0);
+    expect_case_list();
     switch_off("17:00", &visitor, 1);
-    expect("audit", mastarik_audit(table, sizeof table).value, 1);
+    expect("audit", mastarik_easy_audit(table, sizeof table).value, 1);
     printf("18:00  Audit says yes.\n");
     return 0;
 }

@@ -4,8 +4,13 @@
 
 #include <stdint.h>
 
+#define PRId32 __INT32_FMTd__
+#define PRId64 __INT64_FMTd__
+#define PRIu8 __UINT8_FMTu__
+#define PRIu16 __UINT16_FMTu__
 #define PRIu32 __UINT32_FMTu__
 #define PRIu64 __UINT64_FMTu__
+#define PRIx32 __UINT32_FMTx__
 #define PRIx64 __UINT64_FMTx__
 
 #endif

@@ -1,0 +1,2 @@
+#include "mastarik.h"
+typedef int nothing;
