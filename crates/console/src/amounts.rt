@@ -1,4 +1,4 @@
-// Decimal numbers.
+// Numbers, decimal and octal.
 ghost use Prim.Native.Nat.{_≤_};
 
 // A number, if the word is one that fits.
@@ -15,7 +15,10 @@ pub(crate) const MOST_32: u64 = 4294967295;
 
 pub(crate) const MOST_64: u64 = 18446744073709551615;
 
-fn none() -> Given
+const ZERO: u8 = 48;
+
+// No number.
+pub(crate) fn none() -> Given
     ensures { λ r. ⌜ r .value ≤ 0 ⌝ }
 {
     Given {
@@ -37,11 +40,19 @@ fn digit(letter: u8) -> u64
     (letter - 48) as u64
 }
 
+// It has a letter, and the first of several is no zero.
+fn is_begun(word: &[u8]) -> bool {
+    if word.len() == 0 {
+        return false;
+    }
+    (word.len() == 1) | (word[0] != ZERO)
+}
+
 // The word as a decimal number of at most so much.
 pub(crate) fn amount(word: &[u8], most: u64) -> Given
     ensures { λ r. ⌜ r .value ≤ most ⌝ }
 {
-    if word.len() == 0 {
+    if !is_begun(word) {
         return none();
     }
     let mut n = 0u64;
@@ -64,4 +75,44 @@ pub(crate) fn amount(word: &[u8], most: u64) -> Given
         fits: true,
         value: n,
     }
+}
+
+fn is_octal(word: &[u8]) -> bool {
+    if word.len() < 3 {
+        return false;
+    }
+    (word[0] == ZERO) & (word[1] == b'o')
+}
+
+// The octal digits after `0o` as a number of 32 bits.
+fn octal(word: &[u8]) -> Given
+    ensures { λ r. ⌜ r .value ≤ 4294967295 ⌝ }
+{
+    let mut n = 0u64;
+    let mut i = 2;
+    while i < word.len() {
+        let d = digit(word[i]);
+        if 7 < d {
+            return none();
+        }
+        if MOST_32 / 8 < n {
+            return none();
+        }
+        n = n * 8 + d;
+        i += 1;
+    }
+    Given {
+        fits: true,
+        value: n,
+    }
+}
+
+// A mode of 32 bits, which may be octal.
+pub(crate) fn mode(word: &[u8]) -> Given
+    ensures { λ r. ⌜ r .value ≤ 4294967295 ⌝ }
+{
+    if is_octal(word) {
+        return octal(word);
+    }
+    amount(word, MOST_32)
 }

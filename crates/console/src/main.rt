@@ -5,13 +5,17 @@ mod command;
 mod commands;
 mod expecting;
 mod files;
+mod helping;
 mod hexes;
 mod holding;
 mod kind;
 mod lines;
 mod listing;
+mod meaning;
 mod memory;
+mod names;
 mod reading;
+mod refusing;
 mod remembering;
 mod says;
 mod setting;
@@ -19,8 +23,16 @@ mod showing;
 mod spaced;
 mod texts;
 
+use says::error;
+
 fn main() {
-    let mut line = [0u8; 16384];
+    if 1 < os::arg_count() {
+        error(
+            b"the console takes no arguments: it reads commands from standard input",
+        ).print_line();
+        return;
+    }
+    let mut line = [0u8; 16385];
     let mut table = io::large_buffer();
     let mut list = [0u8; 16384];
     let mut out = [0u8; 16384];

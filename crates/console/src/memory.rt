@@ -13,6 +13,8 @@ pub struct Memory {
     pub list: usize,
     // How many bytes of the output buffer are lent to a call.
     pub room: usize,
+    // How many of them are a list that an edit wrote; 0 where there is none.
+    pub edited: usize,
     pub caller: Caller,
     // The caller's further groups.
     pub groups: [u32; 40],
@@ -24,6 +26,10 @@ pub struct Memory {
     // How many answers were as expected, and how many not.
     pub met: u64,
     pub missed: u64,
+    // Whether each answer is followed by its meaning.
+    pub words: bool,
+    // Whether this line is the last.
+    pub over: bool,
 }
 
 pub(crate) fn start() -> Memory {
@@ -31,6 +37,7 @@ pub(crate) fn start() -> Memory {
         table: 0,
         list: 0,
         room: 16384,
+        edited: 0,
         caller: Caller {
             realm: Realm { hi: 0, lo: 0 },
             user: 0,
@@ -47,6 +54,8 @@ pub(crate) fn start() -> Memory {
         last: text(b""),
         met: 0,
         missed: 0,
+        words: false,
+        over: false,
     }
 }
 
@@ -56,6 +65,24 @@ impl Memory {
         next.table = table;
         next.list = list;
         next.room = room;
+        next
+    }
+
+    pub(crate) fn with_edit(self, edited: usize) -> Memory {
+        let mut next = self;
+        next.edited = edited;
+        next
+    }
+
+    pub(crate) fn with_words(self, words: bool) -> Memory {
+        let mut next = self;
+        next.words = words;
+        next
+    }
+
+    pub(crate) fn until(self, over: bool) -> Memory {
+        let mut next = self;
+        next.over = over;
         next
     }
 
@@ -82,6 +109,7 @@ impl Memory {
             table: self.table,
             list: self.list,
             room: self.room,
+            edited: self.edited,
             caller: caller,
             groups: groups,
             further: self.further,
@@ -90,6 +118,8 @@ impl Memory {
             last: last,
             met: self.met,
             missed: self.missed,
+            words: self.words,
+            over: self.over,
         }
     }
 

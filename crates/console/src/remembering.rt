@@ -1,6 +1,7 @@
 // What is remembered after a line that was understood.
 use crate::amounts::MOST_32;
 use crate::amounts::amount;
+use crate::amounts::mode;
 use crate::command;
 use crate::hexes::realm;
 use crate::kind;
@@ -65,16 +66,28 @@ fn guard_in(line: &[u8]) -> Guard {
     }
     Guard::Mode {
         realm: realm(word(line, 2)),
-        mode: id(line, 3),
+        mode: mode(word(line, 3)).value as u32,
     }
 }
 
-// What a command sets, if it was understood.
+// What is left of an edit after an ask, which writes over it where it lists a token.
+fn edit_left(edited: usize, listed: usize) -> usize {
+    if listed == 0 {
+        return edited;
+    }
+    0
+}
+
+// What a command sets, if it was understood and not refused.
 fn learn(command: usize, line: &[u8], n: usize, memory: Memory) -> Memory {
     match command {
         command::TABLE | command::LOAD => memory.with_lengths(n, memory.list, memory.room),
         command::LIST | command::KEEP => memory.with_lengths(memory.table, n, memory.room),
         command::ROOM => memory.with_lengths(memory.table, memory.list, n),
+        command::PUT | command::UNPUT => memory.with_edit(n),
+        command::ASK => memory.with_edit(edit_left(memory.edited, n)),
+        command::WORDS => memory.with_words(same(word(line, 1), b"on")),
+        command::QUIT => memory.until(true),
         command::CALLER => with_caller(line, memory),
         command::FILE => memory.with_file(file_in(line)),
         command::GUARD => memory.with_guard(guard_in(line)),
@@ -84,7 +97,7 @@ fn learn(command: usize, line: &[u8], n: usize, memory: Memory) -> Memory {
 
 pub(crate) fn remember(command: usize, line: &[u8], said: Line, memory: Memory) -> Memory {
     let next = memory.saying(said);
-    if said.kind == kind::ERROR {
+    if said.kind != kind::WORDS {
         return next;
     }
     learn(command, line, said.size, next)

@@ -1,6 +1,8 @@
-// The commands that set what the calls go by: the table's bytes, the list, the room for output, the caller, the file, its guard.
+// The commands that set what the calls go by: the table's bytes, the list, the room for output, the caller, the file, its guard;
+// and whether answers are put in words.
 use crate::amounts::MOST_32;
 use crate::amounts::amount;
+use crate::amounts::mode;
 use crate::hexes::are_bytes;
 use crate::hexes::is_dash;
 use crate::hexes::write_bytes;
@@ -72,14 +74,30 @@ pub(crate) fn list(line: &[u8], list: &mut [u8]) -> Line {
 }
 
 // The first bytes of the output buffer become the list.
-pub(crate) fn keep(line: &[u8], list: &mut [u8], out: &[u8]) -> Line {
-    let length = amount(word(line, 1), MOST_OUT);
+fn keep_first(length: usize, list: &mut [u8], out: &[u8]) -> Line {
+    let n = least(length, out.len());
+    paste(&out[0..n], list, 0);
+    done_with(n as u64)
+}
+
+// What the last edit wrote becomes the list.
+fn keep_edit(edited: usize, list: &mut [u8], out: &[u8]) -> Line {
+    if edited == 0 {
+        return error(b"no edit has written a list");
+    }
+    keep_first(edited, list, out)
+}
+
+pub(crate) fn keep(line: &[u8], edited: usize, list: &mut [u8], out: &[u8]) -> Line {
+    let given = word(line, 1);
+    if given.len() == 0 {
+        return keep_edit(edited, list, out);
+    }
+    let length = amount(given, MOST_OUT);
     if !length.fits {
         return error(b"LENGTH is a number up to 16384");
     }
-    let n = least(length.value as usize, out.len());
-    paste(&out[0..n], list, 0);
-    done_with(n as u64)
+    keep_first(length.value as usize, list, out)
 }
 
 pub(crate) fn room(line: &[u8]) -> Line {
@@ -117,9 +135,9 @@ pub(crate) fn file(line: &[u8]) -> Line {
     done()
 }
 
-fn mode(line: &[u8]) -> Line {
-    if !(are_bytes(word(line, 2), 16) & are_ids(line, 3, 4)) {
-        return error(b"REALM is 32 hex digits, MODE a number of 32 bits");
+fn by_mode(line: &[u8]) -> Line {
+    if !(are_bytes(word(line, 2), 16) & mode(word(line, 3)).fits) {
+        return error(b"REALM is 32 hex digits, MODE a number of 32 bits, or octal as in 0o640");
     }
     done()
 }
@@ -127,10 +145,18 @@ fn mode(line: &[u8]) -> Line {
 pub(crate) fn guard(line: &[u8]) -> Line {
     let what = word(line, 1);
     if same(what, b"mode") {
-        return mode(line);
+        return by_mode(line);
     }
     if !(same(what, b"list") & (count(line) == 2)) {
         return error(b"guard list, or guard mode REALM MODE");
+    }
+    done()
+}
+
+pub(crate) fn words(line: &[u8]) -> Line {
+    let what = word(line, 1);
+    if !(same(what, b"on") | same(what, b"off")) {
+        return error(b"words on, or words off");
     }
     done()
 }
