@@ -11,6 +11,7 @@ mod holding;
 mod kind;
 mod lines;
 mod listing;
+mod looking;
 mod meaning;
 mod memory;
 mod names;
