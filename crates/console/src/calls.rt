@@ -22,6 +22,7 @@ use crate::says::verdict;
 use crate::spaced::word;
 use crate::texts::Line;
 use crate::texts::answer;
+use crate::texts::first;
 use crate::texts::text;
 use access::needed_rights;
 use claims::Claim;
@@ -71,16 +72,16 @@ fn request_in(line: &[u8]) -> Request {
     let host = amount(word(line, 1), MOST_16);
     let types = types_in(word(line, 2));
     let file = word(line, 3);
-    let first = amount(word(line, 4), MOST_64);
-    let last = amount(word(line, 5), MOST_64);
+    let from = amount(word(line, 4), MOST_64);
+    let to = amount(word(line, 5), MOST_64);
     Request {
-        fits: host.fits & types.fits & are_bytes(file, 12) & first.fits & last.fits,
+        fits: host.fits & types.fits & are_bytes(file, 12) & from.fits & to.fits,
         claim: Claim {
             types: types.value as u16,
             host: host.value as u16,
             file: file_id(file),
-            first: first.value,
-            last: last.value,
+            first: from.value,
+            last: to.value,
         },
     }
 }
@@ -107,10 +108,9 @@ pub(crate) fn ask(
     let caller = memory.caller;
     let file = memory.file;
     let guard = memory.guard;
-    let t = least(memory.table, table.len());
     let o = least(memory.room, out.len());
     reply(desk::ask(
-        &table[0..t],
+        first(table, memory.table),
         claim,
         list,
         groups,

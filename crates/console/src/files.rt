@@ -42,8 +42,8 @@ fn keep_mode(fd: i32, mode: u32) -> bool {
     libc::fchmod(fd, mode % 4096) == 0
 }
 
-// All of the bytes, and they have reached the device.
-fn fill(fd: i32, mode: u32, bytes: &[u8]) -> bool {
+// All of the bytes, until they have reached the device.
+fn write_out(fd: i32, mode: u32, bytes: &[u8]) -> bool {
     let moded = keep_mode(fd, mode);
     let written = io::write_all(fd, bytes);
     let synced = libc::fsync(fd) == 0;
@@ -51,6 +51,7 @@ fn fill(fd: i32, mode: u32, bytes: &[u8]) -> bool {
     moded & written & synced & closed
 }
 
+// Why the new name could not be made.
 fn not_made() -> Line {
     if os::errno() == libc::EEXIST {
         return error(b"FILE.new is there already");
@@ -58,13 +59,13 @@ fn not_made() -> Line {
     error(b"FILE cannot be opened")
 }
 
-// The bytes under a new name, which then takes the file's place; what fails leaves neither the new name nor another file.
+// The bytes under a new name, which then takes the file's place. Where that fails the new name is gone, and the file is as it was.
 fn replace(file: &[u8], mode: u32, new: &[u8], bytes: &[u8]) -> Line {
     let fd = os::create(new);
     if fd < 0 {
         return not_made();
     }
-    if fill(fd, mode, bytes) {
+    if write_out(fd, mode, bytes) {
         if os::rename(new, file) == 0 {
             return done_with(bytes.len() as u64);
         }

@@ -28,6 +28,7 @@ fn help_with(name: &[u8]) -> Line {
     with_line(text(b""), command)
 }
 
+// The commands that have a line stand before what is none.
 pub(crate) fn help(line: &[u8]) -> Line {
     if count(line) == 2 {
         return help_with(word(line, 1));

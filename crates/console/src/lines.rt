@@ -57,8 +57,7 @@ fn by_list(
     room: usize,
     out: &mut [u8],
 ) -> Line {
-    let n = least(n, list.len());
-    let list = &list[0..n];
+    let list = first(list, n);
     let room = least(room, out.len());
     let out = &mut out[0..room];
     match command {
@@ -93,8 +92,7 @@ fn by_rights(
     list: &[u8],
     out: &mut [u8],
 ) -> Line {
-    let n = least(memory.list, list.len());
-    let list = &list[0..n];
+    let list = first(list, memory.list);
     let all = memory.groups;
     let groups = first_ids(&all, memory.further);
     match command {
@@ -187,9 +185,9 @@ fn turn(
     list: &mut [u8],
     out: &mut [u8],
 ) -> Memory {
-    let memory = memory.until(typed.last);
     let line = first(line, typed.length);
     let command = command_in(line, typed.long);
+    let memory = memory.until(typed.last | (command == command::QUIT));
     if command == command::PASSED_OVER {
         return memory;
     }

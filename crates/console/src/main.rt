@@ -26,11 +26,13 @@ mod texts;
 
 use says::error;
 
+fn refuse_arguments() {
+    error(b"the console takes no arguments: it reads commands from standard input").print_line();
+}
+
 fn main() {
     if 1 < os::arg_count() {
-        error(
-            b"the console takes no arguments: it reads commands from standard input",
-        ).print_line();
+        refuse_arguments();
         return;
     }
     let mut line = [0u8; 16385];

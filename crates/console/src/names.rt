@@ -29,17 +29,18 @@ const DASH: u8 = 45;
 
 const LOW_LINE: u8 = 95;
 
-// These letters are a name; '-' may stand for '_'.
+// '-' may stand for '_'.
+fn stands_for(typed: u8, letter: u8) -> bool {
+    (typed == letter) | ((typed == DASH) & (letter == LOW_LINE))
+}
+
 fn is_name(letters: &[u8], name: &[u8]) -> bool {
     if letters.len() != name.len() {
         return false;
     }
     let mut i = 0;
     while i < name.len() {
-        if letters.len() <= i {
-            return false;
-        }
-        if (letters[i] != name[i]) & ((letters[i] != DASH) | (name[i] != LOW_LINE)) {
+        if !stands_for(letters[i], name[i]) {
             return false;
         }
         i += 1;

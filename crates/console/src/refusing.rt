@@ -33,7 +33,7 @@ const SECOND: usize = 30;
 
 const BUFFER_TOO_SHORT: usize = 35;
 
-// The place of a refusal's text.
+// The line of a refusal's text.
 fn place_of(number: usize) -> usize {
     if number < 10 {
         return 0;

@@ -70,9 +70,12 @@ fn guard_in(line: &[u8]) -> Guard {
     }
 }
 
-// What is left of an edit after an ask, which writes over it where it lists a token.
-fn edit_left(edited: usize, listed: usize) -> usize {
-    if listed == 0 {
+// What the output buffer has of an edit, after an edit or an ask, which writes over it where it lists a token.
+fn edit_after(command: usize, edited: usize, n: usize) -> usize {
+    if command != command::ASK {
+        return n;
+    }
+    if n == 0 {
         return edited;
     }
     0
@@ -84,10 +87,10 @@ fn learn(command: usize, line: &[u8], n: usize, memory: Memory) -> Memory {
         command::TABLE | command::LOAD => memory.with_lengths(n, memory.list, memory.room),
         command::LIST | command::KEEP => memory.with_lengths(memory.table, n, memory.room),
         command::ROOM => memory.with_lengths(memory.table, memory.list, n),
-        command::PUT | command::UNPUT => memory.with_edit(n),
-        command::ASK => memory.with_edit(edit_left(memory.edited, n)),
+        command::PUT | command::UNPUT | command::ASK => {
+            memory.with_edit(edit_after(command, memory.edited, n))
+        }
         command::WORDS => memory.with_words(same(word(line, 1), b"on")),
-        command::QUIT => memory.until(true),
         command::CALLER => with_caller(line, memory),
         command::FILE => memory.with_file(file_in(line)),
         command::GUARD => memory.with_guard(guard_in(line)),

@@ -1,5 +1,6 @@
 // The commands that set what the calls go by: the table's bytes, the list, the room for output, the caller, the file, its guard;
 // and whether answers are put in words.
+use crate::amounts::Given;
 use crate::amounts::MOST_32;
 use crate::amounts::amount;
 use crate::amounts::mode;
@@ -8,6 +9,7 @@ use crate::hexes::is_dash;
 use crate::hexes::write_bytes;
 use crate::kind;
 use crate::memory::least;
+use crate::names::place_among;
 use crate::says::done;
 use crate::says::done_with;
 use crate::says::error;
@@ -15,6 +17,7 @@ use crate::spaced::count;
 use crate::spaced::word;
 use crate::texts::Line;
 use crate::texts::answer;
+use crate::texts::first;
 use crate::texts::paste;
 use check::same;
 use table::WIDTH;
@@ -73,31 +76,34 @@ pub(crate) fn list(line: &[u8], list: &mut [u8]) -> Line {
     take(word(line, 1), list)
 }
 
-// The first bytes of the output buffer become the list.
-fn keep_first(length: usize, list: &mut [u8], out: &[u8]) -> Line {
-    let n = least(length, out.len());
-    paste(&out[0..n], list, 0);
-    done_with(n as u64)
+// How much is kept: what LENGTH says, or else what the last edit wrote.
+fn kept(given: &[u8], edited: usize) -> Given {
+    if given.len() == 0 {
+        return Given {
+            fits: edited != 0,
+            value: edited as u64,
+        };
+    }
+    amount(given, MOST_OUT)
 }
 
-// What the last edit wrote becomes the list.
-fn keep_edit(edited: usize, list: &mut [u8], out: &[u8]) -> Line {
-    if edited == 0 {
+fn not_kept(given: &[u8]) -> Line {
+    if given.len() == 0 {
         return error(b"no edit has written a list");
     }
-    keep_first(edited, list, out)
+    error(b"LENGTH is a number up to 16384")
 }
 
+// The first bytes of the output buffer become the list.
 pub(crate) fn keep(line: &[u8], edited: usize, list: &mut [u8], out: &[u8]) -> Line {
     let given = word(line, 1);
-    if given.len() == 0 {
-        return keep_edit(edited, list, out);
-    }
-    let length = amount(given, MOST_OUT);
+    let length = kept(given, edited);
     if !length.fits {
-        return error(b"LENGTH is a number up to 16384");
+        return not_kept(given);
     }
-    keep_first(length.value as usize, list, out)
+    let bytes = first(out, length.value as usize);
+    paste(bytes, list, 0);
+    done_with(bytes.len() as u64)
 }
 
 pub(crate) fn room(line: &[u8]) -> Line {
@@ -128,8 +134,8 @@ pub(crate) fn caller(line: &[u8]) -> Line {
 }
 
 pub(crate) fn file(line: &[u8]) -> Line {
-    let what = word(line, 3);
-    if !(are_ids(line, 1, 3) & (same(what, b"dir") | same(what, b"file"))) {
+    let what = place_among(word(line, 3), b"file dir");
+    if !(are_ids(line, 1, 3) & (what < 2)) {
         return error(b"OWNER and GROUP are numbers of 32 bits, then file or dir");
     }
     done()
@@ -154,8 +160,7 @@ pub(crate) fn guard(line: &[u8]) -> Line {
 }
 
 pub(crate) fn words(line: &[u8]) -> Line {
-    let what = word(line, 1);
-    if !(same(what, b"on") | same(what, b"off")) {
+    if 2 <= place_among(word(line, 1), b"on off") {
         return error(b"words on, or words off");
     }
     done()

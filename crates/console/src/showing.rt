@@ -26,7 +26,7 @@ fn misspelled() -> Line {
 
 fn show_out(line: &[u8]) -> Line {
     let length = amount(word(line, 2), 16384);
-    if !length.fits {
+    if !(length.fits & same(word(line, 1), b"out")) {
         return misspelled();
     }
     shown(kind::OUT, length.value as usize)
@@ -52,13 +52,12 @@ fn with_ids(line: Line, ids: &[u32]) -> Line {
 
 fn show_caller(caller: Caller, groups: &[u32]) -> Line {
     let realm = caller.realm;
-    let named = with_realm(text(b"caller "), realm).counted(b" ", caller.user as u64);
+    let named = with_id(with_realm(text(b"caller "), realm), caller.user);
     with_ids(with_id(named, caller.group), groups)
 }
 
 fn show_file(file: File) -> Line {
-    let owned = text(b"file ").counted(b"", file.owner as u64)
-        .counted(b" ", file.group as u64);
+    let owned = with_id(with_id(text(b"file"), file.owner), file.group);
     if file.dir {
         return owned.with(b" dir");
     }
@@ -68,9 +67,7 @@ fn show_file(file: File) -> Line {
 fn show_guard(guard: Guard) -> Line {
     match guard {
         Guard::List => text(b"guard list"),
-        Guard::Mode { realm, mode } => {
-            with_realm(text(b"guard mode "), realm).counted(b" ", mode as u64)
-        }
+        Guard::Mode { realm, mode } => with_id(with_realm(text(b"guard mode "), realm), mode),
     }
 }
 
@@ -90,12 +87,11 @@ fn show_set(what: usize, memory: Memory) -> Line {
 }
 
 pub(crate) fn show(line: &[u8], memory: Memory) -> Line {
-    let what = word(line, 1);
-    if same(what, b"out") {
+    if count(line) == 3 {
         return show_out(line);
     }
-    if count(line) != 2 {
-        return misspelled();
-    }
-    show_set(place_among(what, b"table list caller file guard"), memory)
+    show_set(
+        place_among(word(line, 1), b"table list caller file guard"),
+        memory,
+    )
 }
