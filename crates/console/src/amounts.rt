@@ -17,8 +17,7 @@ pub(crate) const MOST_64: u64 = 18446744073709551615;
 
 const ZERO: u8 = 48;
 
-// No number.
-pub(crate) fn none() -> Given
+fn none() -> Given
     ensures { λ r. ⌜ r .value ≤ 0 ⌝ }
 {
     Given {
@@ -40,26 +39,18 @@ fn digit(letter: u8) -> u64
     (letter - 48) as u64
 }
 
-// It has a letter, and the first of several is no zero.
-fn is_begun(word: &[u8]) -> bool {
-    if word.len() == 0 {
-        return false;
-    }
-    (word.len() == 1) | (word[0] != ZERO)
-}
-
-// The word as a decimal number of at most so much.
+// The word as a decimal number of at most so much; the first of several digits is no zero.
 pub(crate) fn amount(word: &[u8], most: u64) -> Given
     ensures { λ r. ⌜ r .value ≤ most ⌝ }
 {
-    if !is_begun(word) {
+    if word.len() == 0 {
         return none();
     }
     let mut n = 0u64;
     let mut i = 0;
     while i < word.len() {
         let d = digit(word[i]);
-        if 9 < d {
+        if (9 < d) | ((i == 1) & (n == 0)) {
             return none();
         }
         if (MOST_64 - d) / 10 < n {
@@ -75,13 +66,6 @@ pub(crate) fn amount(word: &[u8], most: u64) -> Given
         fits: true,
         value: n,
     }
-}
-
-fn is_octal(word: &[u8]) -> bool {
-    if word.len() < 3 {
-        return false;
-    }
-    (word[0] == ZERO) & (word[1] == b'o')
 }
 
 // The octal digits after `0o` as a number of 32 bits.
@@ -111,7 +95,10 @@ fn octal(word: &[u8]) -> Given
 pub(crate) fn mode(word: &[u8]) -> Given
     ensures { λ r. ⌜ r .value ≤ 4294967295 ⌝ }
 {
-    if is_octal(word) {
+    if word.len() < 3 {
+        return amount(word, MOST_32);
+    }
+    if (word[0] == ZERO) & (word[1] == b'o') {
         return octal(word);
     }
     amount(word, MOST_32)

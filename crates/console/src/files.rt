@@ -30,10 +30,6 @@ pub(crate) fn load(line: &[u8], table: &mut [u8]) -> Line {
     done_with(n as u64)
 }
 
-fn is_regular(mode: u32) -> bool {
-    mode & libc::S_IFMT == libc::S_IFREG
-}
-
 // A file that takes another's place has its mode.
 fn keep_mode(fd: i32, mode: u32) -> bool {
     if mode == 0 {
@@ -87,13 +83,10 @@ pub(crate) fn save(line: &[u8], table: &[u8]) -> Line {
     }
     let file = word(line, 1);
     let mode = mode_of(file);
-    if mode == 0 {
-        return save_as(file, mode, table);
-    }
-    if !is_regular(mode) {
+    if (mode != 0) & (mode & libc::S_IFMT != libc::S_IFREG) {
         return error(b"FILE is no regular file");
     }
-    if !may_be_written(file) {
+    if (mode != 0) & !may_be_written(file) {
         return error(b"FILE cannot be opened");
     }
     save_as(file, mode, table)

@@ -20,19 +20,15 @@ pub(crate) fn miscounted(line: &[u8]) -> Line {
     with_line(error(b"wrong number of words: "), named(word(line, 0)))
 }
 
-fn help_with(name: &[u8]) -> Line {
-    let command = named(name);
+// The commands that have a line stand before what is none.
+pub(crate) fn help(line: &[u8]) -> Line {
+    if count(line) == 1 {
+        write(&command::LINES);
+        return done_with(command::UNKNOWN as u64);
+    }
+    let command = named(word(line, 1));
     if command == command::UNKNOWN {
         return error(b"unknown command");
     }
     with_line(text(b""), command)
-}
-
-// The commands that have a line stand before what is none.
-pub(crate) fn help(line: &[u8]) -> Line {
-    if count(line) == 2 {
-        return help_with(word(line, 1));
-    }
-    write(&command::LINES);
-    done_with(command::UNKNOWN as u64)
 }

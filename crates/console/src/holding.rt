@@ -1,5 +1,6 @@
 // The tokens of a table in words.
-use crate::names::with_types;
+use crate::names::TYPES;
+use crate::names::with_names;
 use crate::says::done_with;
 use crate::says::refused;
 use crate::texts::Line;
@@ -15,7 +16,7 @@ ghost use Prim.Native.Nat.{_≤_};
 pub(crate) fn with_token(line: Line, number: u64, host: u16, types: u16) -> Line {
     let head = line.counted(b"number ", number)
         .counted(b", host ", host as u64);
-    with_types(head, types)
+    with_names(head, types as u64, &TYPES)
 }
 
 fn with_range(line: Line, claim: Claim) -> Line {

@@ -68,21 +68,6 @@ fn by_list(
     }
 }
 
-// Those, and the commands that set it.
-fn on_list(
-    command: usize,
-    line: &[u8],
-    n: usize,
-    list: &mut [u8],
-    room: usize,
-    out: &mut [u8],
-) -> Line {
-    match command {
-        command::LIST => setting::list(line, list),
-        _ => by_list(command, line, n, list, room, out),
-    }
-}
-
 // The commands that go by the caller's rights.
 fn by_rights(
     command: usize,
@@ -143,7 +128,7 @@ fn answer(
         }
         command::KEEP => setting::keep(line, memory.edited, list, out),
         command::LIST | command::CHECK | command::RECORDS | command::PUT | command::UNPUT =>
-            on_list(command, line, memory.list, list, memory.room, out),
+            by_list(command, line, memory.list, list, memory.room, out),
         command::TABLE
         | command::LOAD
         | command::SAVE

@@ -1,8 +1,9 @@
 // The records of an access list in words.
-use crate::names::with_kind;
+use crate::names::KINDS;
 use crate::names::with_letters;
 use crate::says::done_with;
 use crate::says::refused_with;
+use crate::spaced::word;
 use crate::texts::Line;
 use crate::texts::text;
 use list::Record;
@@ -39,7 +40,7 @@ pub(crate) fn with_record(line: Line, at: usize, r: Record) -> Line {
     let kind = r.kind;
     let realm = r.realm;
     let placed = line.counted(b"place ", at as u64).with(b", ");
-    let named = with_realm(with_kind(placed, kind), kind, realm);
+    let named = with_realm(placed.with(word(&KINDS, kind as usize)), kind, realm);
     with_rights(with_id(named, kind, r.id), kind, r.rights)
 }
 

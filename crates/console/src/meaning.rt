@@ -4,72 +4,46 @@ use crate::holding::with_token;
 use crate::kind;
 use crate::listing::with_record;
 use crate::memory::least;
-use crate::names::with_rights;
-use crate::refusing::refusal;
-use crate::spaced::part;
+use crate::names::RIGHTS;
+use crate::names::with_names;
+use crate::sentences::AUDITED_NO;
+use crate::sentences::EDITED;
+use crate::sentences::FREED;
+use crate::sentences::GRANTED;
+use crate::sentences::NO_RIGHTS;
+use crate::sentences::NOT_DECIDED;
+use crate::sentences::PASSES;
+use crate::sentences::counted;
+use crate::sentences::refusal;
+use crate::sentences::sentence;
 use crate::texts::Line;
-use crate::texts::NEWLINE;
 use crate::texts::text;
 use list::Read;
 use list::read_record;
 use words::number16;
 use words::number64;
 
-// The first three go before a number.
-const SENTENCES: [u8; 249] = *b"the token has number\n\
-    tokens freed:\n\
-    keep makes it the list; its length is\n\
-    the table is not well formed, or a number stands twice, or tokens conflict\n\
-    the table is well formed, its numbers differ and nothing conflicts\n\
-    the list passes\n\
-    no record decides\n";
-
-const GRANTED: usize = 0;
-
-const FREED: usize = 1;
-
-const EDITED: usize = 2;
-
-const AUDITED_NO: usize = 3;
-
-const AUDITED_YES: usize = 4;
-
-const PASSES: usize = 5;
-
-const NOT_DECIDED: usize = 6;
-
 // The length of an entry of an ask.
 const ENTRY: usize = 13;
-
-fn sentence(k: usize) -> Line {
-    text(b"  ").with(part(&SENTENCES, k, NEWLINE))
-}
-
-fn print_counted(k: usize, n: usize) {
-    sentence(k).counted(b" ", n as u64).print_line();
-}
-
-fn audited(n: usize) -> Line {
-    if n == 0 {
-        return sentence(AUDITED_NO);
-    }
-    sentence(AUDITED_YES)
-}
 
 // A call that was done, and the number that it gives.
 fn print_done(command: usize, n: usize) {
     match command {
-        command::GRANT => print_counted(GRANTED, n),
-        command::DROP => print_counted(FREED, n),
-        command::PUT | command::UNPUT => print_counted(EDITED, n),
-        command::AUDIT => audited(n).print_line(),
+        command::GRANT => counted(GRANTED, n).print_line(),
+        command::DROP => counted(FREED, n).print_line(),
+        command::PUT | command::UNPUT => counted(EDITED, n).print_line(),
+        command::AUDIT => sentence(AUDITED_NO + n % 2).print_line(),
         command::CHECK => sentence(PASSES).print_line(),
         _ => {}
     }
 }
 
 fn print_rights(rights: usize) {
-    with_rights(text(b"  "), rights as u64).print_line();
+    if rights == 0 {
+        sentence(NO_RIGHTS).print_line();
+        return;
+    }
+    with_names(text(b"  "), rights as u64, &RIGHTS).print_line();
 }
 
 // The record that decided; none does at place 0, where the default realm stands.

@@ -60,16 +60,17 @@ pub(crate) fn start() -> Memory {
 }
 
 impl Memory {
-    pub(crate) fn with_lengths(self, table: usize, list: usize, room: usize) -> Memory {
+    pub(crate) fn with_lengths(
+        self,
+        table: usize,
+        list: usize,
+        room: usize,
+        edited: usize,
+    ) -> Memory {
         let mut next = self;
         next.table = table;
         next.list = list;
         next.room = room;
-        next
-    }
-
-    pub(crate) fn with_edit(self, edited: usize) -> Memory {
-        let mut next = self;
         next.edited = edited;
         next
     }

@@ -3,7 +3,6 @@ use crate::amounts::Given;
 use crate::amounts::MOST_8;
 use crate::amounts::MOST_16;
 use crate::amounts::amount;
-use crate::amounts::none;
 use crate::spaced::count;
 use crate::spaced::part;
 use crate::spaced::word;
@@ -12,35 +11,35 @@ use check::same;
 ghost use Prim.Native.Nat.{_≤_};
 ghost use lib.ListN.{length};
 
-const TYPES: [u8; 93] =
+pub(crate) const TYPES: [u8; 93] =
     *b"data_read data_write status_read status_write lock_read lock_write open_shared open_exclusive";
 
-const RIGHTS: [u8; 40] = *b"read write execute control insert delete";
+pub(crate) const RIGHTS: [u8; 40] = *b"read write execute control insert delete";
 
 const LETTERS: [u8; 11] = *b"r w x c i d";
 
 // Each at the place of its number.
-const KINDS: [u8; 121] =
+pub(crate) const KINDS: [u8; 121] =
     *b"unknown default_realm user_obj group_obj other_obj mask_obj any_other user group foreign_user foreign_group foreign_other";
 
 const KIND_COUNT: usize = 12;
+
+const NO_PLACE: usize = 255;
 
 const DASH: u8 = 45;
 
 const LOW_LINE: u8 = 95;
 
-// '-' may stand for '_'.
-fn stands_for(typed: u8, letter: u8) -> bool {
-    (typed == letter) | ((typed == DASH) & (letter == LOW_LINE))
-}
-
+// These letters are a name; '-' may stand for '_'.
 fn is_name(letters: &[u8], name: &[u8]) -> bool {
     if letters.len() != name.len() {
         return false;
     }
     let mut i = 0;
     while i < name.len() {
-        if !stands_for(letters[i], name[i]) {
+        let typed = letters[i];
+        let letter = name[i];
+        if (typed != letter) & ((typed != DASH) | (letter != LOW_LINE)) {
             return false;
         }
         i += 1;
@@ -48,7 +47,7 @@ fn is_name(letters: &[u8], name: &[u8]) -> bool {
     true
 }
 
-// Which of some names this one is; past the last where it is none of them.
+// Which of some names this one is; past any place where it is none of them.
 pub(crate) fn place_among(name: &[u8], names: &[u8]) -> usize {
     let n = count(names);
     let mut k = 0;
@@ -58,7 +57,7 @@ pub(crate) fn place_among(name: &[u8], names: &[u8]) -> usize {
         }
         k += 1;
     }
-    n
+    NO_PLACE
 }
 
 // The bit of a place; 0 past the eighth.
@@ -78,17 +77,6 @@ fn bit(k: usize) -> u64
     }
 }
 
-// The bit of a name; 0 where it is none of these.
-fn bit_of(name: &[u8], names: &[u8]) -> u64
-    ensures { λ r. ⌜ r ≤ 128 ⌝ }
-{
-    let k = place_among(name, names);
-    if count(names) <= k {
-        return 0;
-    }
-    bit(k)
-}
-
 fn has(set: u64, bit: u64) -> bool {
     if bit == 0 {
         return false;
@@ -106,10 +94,6 @@ fn joined(set: Given, bit: u64) -> Given
     }
 }
 
-fn is_joint(letter: u8) -> bool {
-    (letter == b'+') | (letter == b',') | (letter == b'|')
-}
-
 // The first place from a place on that joins two names; the word's end where there is none.
 fn joint(word: &[u8], from: usize) -> usize
     requires { ⌜ from ≤ length (now word) ⌝ }
@@ -117,7 +101,8 @@ fn joint(word: &[u8], from: usize) -> usize
 {
     let mut at = from;
     while at < word.len() {
-        if is_joint(word[at]) {
+        let letter = word[at];
+        if (letter == b'+') | (letter == b',') | (letter == b'|') {
             return at;
         }
         at += 1;
@@ -136,7 +121,7 @@ fn set_in(word: &[u8], names: &[u8]) -> Given
     let mut at = 0;
     while at <= word.len() {
         let end = joint(word, at);
-        set = joined(set, bit_of(&word[at..end], names));
+        set = joined(set, bit(place_among(&word[at..end], names)));
         at = end + 1;
     }
     set
@@ -150,7 +135,7 @@ fn lettered(set: Given, letter: u8) -> Given
     if letter == DASH {
         return set;
     }
-    joined(set, bit_of(&[letter], &LETTERS))
+    joined(set, bit(place_among(&[letter], &LETTERS)))
 }
 
 // The rights of letters.
@@ -207,15 +192,9 @@ pub(crate) fn kind_in(word: &[u8]) -> Given
         return number;
     }
     let k = place_among(word, &KINDS);
-    if k == 0 {
-        return none();
-    }
-    if KIND_COUNT <= k {
-        return none();
-    }
     Given {
-        fits: true,
-        value: k as u64,
+        fits: (k != 0) & (k < KIND_COUNT),
+        value: (k % 256) as u64,
     }
 }
 
@@ -238,7 +217,7 @@ fn with_name(line: Line, name: &[u8]) -> Line {
 }
 
 // With the names of a set, the lowest bit's first.
-fn with_names(line: Line, set: u64, names: &[u8]) -> Line {
+pub(crate) fn with_names(line: Line, set: u64, names: &[u8]) -> Line {
     let mut all = line;
     let mut k = 0;
     while k < 8 {
@@ -248,17 +227,6 @@ fn with_names(line: Line, set: u64, names: &[u8]) -> Line {
         k += 1;
     }
     all
-}
-
-pub(crate) fn with_types(line: Line, types: u16) -> Line {
-    with_names(line, types as u64, &TYPES)
-}
-
-pub(crate) fn with_rights(line: Line, rights: u64) -> Line {
-    if rights == 0 {
-        return line.with(b"no rights");
-    }
-    with_names(line, rights, &RIGHTS)
 }
 
 // A right's letter, or '-' where it is missing.
@@ -277,9 +245,4 @@ pub(crate) fn with_letters(line: Line, rights: u64) -> Line {
         k += 1;
     }
     all
-}
-
-// A kind by the paper's name.
-pub(crate) fn with_kind(line: Line, kind: u8) -> Line {
-    line.with(word(&KINDS, kind as usize))
 }

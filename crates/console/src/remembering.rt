@@ -83,12 +83,16 @@ fn edit_after(command: usize, edited: usize, n: usize) -> usize {
 
 // What a command sets, if it was understood and not refused.
 fn learn(command: usize, line: &[u8], n: usize, memory: Memory) -> Memory {
+    let table = memory.table;
+    let list = memory.list;
+    let room = memory.room;
+    let edited = memory.edited;
     match command {
-        command::TABLE | command::LOAD => memory.with_lengths(n, memory.list, memory.room),
-        command::LIST | command::KEEP => memory.with_lengths(memory.table, n, memory.room),
-        command::ROOM => memory.with_lengths(memory.table, memory.list, n),
+        command::TABLE | command::LOAD => memory.with_lengths(n, list, room, edited),
+        command::LIST | command::KEEP => memory.with_lengths(table, n, room, edited),
+        command::ROOM => memory.with_lengths(table, list, n, edited),
         command::PUT | command::UNPUT | command::ASK => {
-            memory.with_edit(edit_after(command, memory.edited, n))
+            memory.with_lengths(table, list, room, edit_after(command, edited, n))
         }
         command::WORDS => memory.with_words(same(word(line, 1), b"on")),
         command::CALLER => with_caller(line, memory),

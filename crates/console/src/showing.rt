@@ -20,14 +20,10 @@ fn shown(kind: u8, size: usize) -> Line {
     answer(kind, size, b"")
 }
 
-fn misspelled() -> Line {
-    error(b"show table, show list, or show out LENGTH, up to 16384")
-}
-
 fn show_out(line: &[u8]) -> Line {
     let length = amount(word(line, 2), 16384);
     if !(length.fits & same(word(line, 1), b"out")) {
-        return misspelled();
+        return error(b"show table, show list, or show out LENGTH, up to 16384");
     }
     shown(kind::OUT, length.value as usize)
 }
@@ -71,27 +67,25 @@ fn show_guard(guard: Guard) -> Line {
     }
 }
 
-fn show_set(what: usize, memory: Memory) -> Line {
+// What is to be shown; 5 for what may be the output buffer.
+fn what_in(line: &[u8]) -> usize {
+    if count(line) == 3 {
+        return 5;
+    }
+    place_among(word(line, 1), b"table list caller file guard")
+}
+
+pub(crate) fn show(line: &[u8], memory: Memory) -> Line {
     let caller = memory.caller;
     let file = memory.file;
     let guard = memory.guard;
     let groups = memory.groups;
-    match what {
+    match what_in(line) {
         0 => shown(kind::TABLE, memory.table),
         1 => shown(kind::LIST, memory.list),
         2 => show_caller(caller, first_ids(&groups, memory.further)),
         3 => show_file(file),
         4 => show_guard(guard),
-        _ => misspelled(),
+        _ => show_out(line),
     }
-}
-
-pub(crate) fn show(line: &[u8], memory: Memory) -> Line {
-    if count(line) == 3 {
-        return show_out(line);
-    }
-    show_set(
-        place_among(word(line, 1), b"table list caller file guard"),
-        memory,
-    )
 }
