@@ -26,7 +26,7 @@ pub(crate) fn load(line: &[u8], table: &mut [u8]) -> Line {
     if !ended {
         return error(b"FILE cannot be read, or has more than 65536 bytes");
     }
-    paste(&bytes[..n], table, 0);
+    paste(first(&bytes, n), table, 0);
     done_with(n as u64)
 }
 

@@ -127,8 +127,15 @@ fn answer(
             by_rights(command, line, memory, table, list, out)
         }
         command::KEEP => setting::keep(line, memory.edited, list, out),
-        command::LIST | command::CHECK | command::RECORDS | command::PUT | command::UNPUT =>
-            by_list(command, line, memory.list, list, memory.room, out),
+        command::LIST => setting::list(line, list),
+        command::CHECK | command::RECORDS | command::PUT | command::UNPUT => by_list(
+            command,
+            line,
+            memory.list,
+            list,
+            memory.room,
+            out,
+        ),
         command::TABLE
         | command::LOAD
         | command::SAVE
@@ -172,7 +179,7 @@ fn turn(
 ) -> Memory {
     let line = first(line, typed.length);
     let command = command_in(line, typed.long);
-    let memory = memory.until(typed.last | (command == command::QUIT));
+    let memory = memory.with_manner(memory.words, typed.last | (command == command::QUIT));
     if command == command::PASSED_OVER {
         return memory;
     }

@@ -7,15 +7,12 @@ ghost use Rattle.libc.specs.Io.{Ended};
 
 const LAST: usize = PATH_MAX - 1;
 
-fn no_time() -> timespec {
-    timespec {
-        tv_sec: 0,
-        tv_nsec: 0,
-    }
-}
-
 // What is known of nothing.
 fn blank() -> stat {
+    let time = timespec {
+        tv_sec: 0,
+        tv_nsec: 0,
+    };
     stat {
         st_dev: 0,
         st_ino: 0,
@@ -28,9 +25,9 @@ fn blank() -> stat {
         st_size: 0,
         st_blksize: 0,
         st_blocks: 0,
-        st_atim: no_time(),
-        st_mtim: no_time(),
-        st_ctim: no_time(),
+        st_atim: time,
+        st_mtim: time,
+        st_ctim: time,
         __unused: [0, 0, 0],
     }
 }

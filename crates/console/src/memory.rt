@@ -75,14 +75,9 @@ impl Memory {
         next
     }
 
-    pub(crate) fn with_words(self, words: bool) -> Memory {
+    pub(crate) fn with_manner(self, words: bool, over: bool) -> Memory {
         let mut next = self;
         next.words = words;
-        next
-    }
-
-    pub(crate) fn until(self, over: bool) -> Memory {
-        let mut next = self;
         next.over = over;
         next
     }

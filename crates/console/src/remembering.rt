@@ -94,7 +94,7 @@ fn learn(command: usize, line: &[u8], n: usize, memory: Memory) -> Memory {
         command::PUT | command::UNPUT | command::ASK => {
             memory.with_lengths(table, list, room, edit_after(command, edited, n))
         }
-        command::WORDS => memory.with_words(same(word(line, 1), b"on")),
+        command::WORDS => memory.with_manner(same(word(line, 1), b"on"), memory.over),
         command::CALLER => with_caller(line, memory),
         command::FILE => memory.with_file(file_in(line)),
         command::GUARD => memory.with_guard(guard_in(line)),

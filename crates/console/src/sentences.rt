@@ -43,6 +43,7 @@ pub(crate) const FREED: usize = 24;
 
 pub(crate) const EDITED: usize = 25;
 
+// The one of yes comes after it.
 pub(crate) const AUDITED_NO: usize = 26;
 
 pub(crate) const PASSES: usize = 28;

@@ -51,7 +51,7 @@ fn take(word: &[u8], buffer: &mut [u8]) -> Line {
         return error(b"BYTES are hex digits, two for each, or -");
     }
     let n = least(word.len() / 2, buffer.len());
-    write_bytes(word, &mut buffer[0..n]);
+    write_bytes(word, buffer);
     done_with(n as u64)
 }
 
