@@ -17,7 +17,7 @@ use crate::sentences::counted;
 use crate::sentences::refusal;
 use crate::sentences::sentence;
 use crate::texts::Line;
-use crate::texts::text;
+use crate::texts::indented;
 use list::Read;
 use list::read_record;
 use words::number16;
@@ -43,7 +43,7 @@ fn print_rights(rights: usize) {
         sentence(NO_RIGHTS).print_line();
         return;
     }
-    with_names(text(b"  "), rights as u64, &RIGHTS).print_line();
+    with_names(indented(), rights as u64, &RIGHTS).print_line();
 }
 
 // The record that decided; none does at place 0, where the default realm stands.
@@ -56,12 +56,12 @@ fn print_decided(list: &[u8], place: usize) {
     let Read::Whole(r) = read_record(&list[at..]) else {
         return;
     };
-    with_record(text(b"  "), place, r).print_line();
+    with_record(indented(), place, r).print_line();
 }
 
 fn print_entry(entry: &[u8]) {
     let number = number64(entry, 1);
-    with_token(text(b"  "), number, number16(entry, 9), number16(entry, 11)).print_line();
+    with_token(indented(), number, number16(entry, 9), number16(entry, 11)).print_line();
 }
 
 // A line for each token to call back.

@@ -7,7 +7,6 @@ use crate::spaced::count;
 use crate::spaced::part;
 use crate::spaced::word;
 use crate::texts::Line;
-use check::same;
 ghost use Prim.Native.Nat.{_≤_};
 ghost use lib.ListN.{length};
 
@@ -138,7 +137,7 @@ fn lettered(set: Given, letter: u8) -> Given
     joined(set, bit(place_among(&[letter], &LETTERS)))
 }
 
-// The rights of letters.
+// The rights of letters; six dashes are none.
 fn letters_in(word: &[u8]) -> Given
     ensures { λ r. ⌜ r .value ≤ 255 ⌝ }
 {
@@ -152,7 +151,7 @@ fn letters_in(word: &[u8]) -> Given
         i += 1;
     }
     Given {
-        fits: set.fits & ((set.value != 0) | same(word, b"------")),
+        fits: set.fits & ((set.value != 0) | (word.len() == 6)),
         value: set.value,
     }
 }

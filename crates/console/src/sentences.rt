@@ -2,7 +2,7 @@
 use crate::spaced::part;
 use crate::texts::Line;
 use crate::texts::NEWLINE;
-use crate::texts::text;
+use crate::texts::indented;
 
 // The refusals from 10 to 24, those from 30 to 37, then the others by the numbers below. Some go before a number.
 const SENTENCES: [u8; 1026] = *b"list over 4,096 bytes, at place\n\
@@ -55,7 +55,7 @@ pub(crate) const NO_RIGHTS: usize = 30;
 const BUFFER_TOO_SHORT: usize = 35;
 
 pub(crate) fn sentence(k: usize) -> Line {
-    text(b"  ").with(part(&SENTENCES, k, NEWLINE))
+    indented().with(part(&SENTENCES, k, NEWLINE))
 }
 
 pub(crate) fn counted(k: usize, n: usize) -> Line {

@@ -64,6 +64,11 @@ pub(crate) fn text(letters: &[u8]) -> Line {
     answer(kind::WORDS, 0, letters)
 }
 
+// A line under an answer.
+pub(crate) fn indented() -> Line {
+    text(b"  ")
+}
+
 impl Line {
     pub(crate) fn with(self, letters: &[u8]) -> Line {
         let mut all = self.letters;

@@ -5,10 +5,10 @@ use Rattle.console.proofs.names.letters_in.Statement.{statement}
 use Rattle.console.proofs.names.letters_in.Tie as tie
 
 abbrev Inv-loop : tie.InvT-loop
-Inv-loop word set₀ i₀ t4 set i = set .value ≤ 255
+Inv-loop word set₀ i₀ set i = set .value ≤ 255
 
 abbrev μ-loop : tie.MeasureT-loop
-μ-loop word set₀ i₀ t4 set i = length word - i
+μ-loop word set₀ i₀ set i = length word - i
 
 pub letters-in-spec : {M : Type 1} → statement M
 letters-in-spec =
@@ -22,6 +22,4 @@ letters-in-spec =
     (λ c. search needs)
     (λ c. search needs)
     (λ c. search needs)
-    (λ c. search needs)
-    (λ c κs. search needs)
     (λ c. search needs))
