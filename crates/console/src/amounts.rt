@@ -1,4 +1,4 @@
-// Decimal numbers.
+// Numbers, decimal and octal.
 ghost use Prim.Native.Nat.{_≤_};
 
 // A number, if the word is one that fits.
@@ -14,6 +14,8 @@ pub(crate) const MOST_16: u64 = 65535;
 pub(crate) const MOST_32: u64 = 4294967295;
 
 pub(crate) const MOST_64: u64 = 18446744073709551615;
+
+const ZERO: u8 = 48;
 
 fn none() -> Given
     ensures { λ r. ⌜ r .value ≤ 0 ⌝ }
@@ -37,7 +39,7 @@ fn digit(letter: u8) -> u64
     (letter - 48) as u64
 }
 
-// The word as a decimal number of at most so much.
+// The word as a decimal number of at most so much; the first of several digits is no zero.
 pub(crate) fn amount(word: &[u8], most: u64) -> Given
     ensures { λ r. ⌜ r .value ≤ most ⌝ }
 {
@@ -48,7 +50,7 @@ pub(crate) fn amount(word: &[u8], most: u64) -> Given
     let mut i = 0;
     while i < word.len() {
         let d = digit(word[i]);
-        if 9 < d {
+        if (9 < d) | ((i == 1) & (n == 0)) {
             return none();
         }
         if (MOST_64 - d) / 10 < n {
@@ -64,4 +66,40 @@ pub(crate) fn amount(word: &[u8], most: u64) -> Given
         fits: true,
         value: n,
     }
+}
+
+// The octal digits after `0o` as a number of 32 bits.
+fn octal(word: &[u8]) -> Given
+    ensures { λ r. ⌜ r .value ≤ 4294967295 ⌝ }
+{
+    let mut n = 0u64;
+    let mut i = 2;
+    while i < word.len() {
+        let d = digit(word[i]);
+        if 7 < d {
+            return none();
+        }
+        if MOST_32 / 8 < n {
+            return none();
+        }
+        n = n * 8 + d;
+        i += 1;
+    }
+    Given {
+        fits: true,
+        value: n,
+    }
+}
+
+// A mode of 32 bits, which may be octal.
+pub(crate) fn mode(word: &[u8]) -> Given
+    ensures { λ r. ⌜ r .value ≤ 4294967295 ⌝ }
+{
+    if word.len() < 3 {
+        return amount(word, MOST_32);
+    }
+    if (word[0] == ZERO) & (word[1] == b'o') {
+        return octal(word);
+    }
+    amount(word, MOST_32)
 }

@@ -1,5 +1,4 @@
 // The calls, on what the console remembers.
-use crate::amounts::MOST_8;
 use crate::amounts::MOST_16;
 use crate::amounts::MOST_32;
 use crate::amounts::MOST_64;
@@ -8,8 +7,12 @@ use crate::hexes::are_bytes;
 use crate::hexes::file_id;
 use crate::hexes::is_dash;
 use crate::hexes::realm;
+use crate::kind;
 use crate::memory::Memory;
 use crate::memory::least;
+use crate::names::kind_in;
+use crate::names::rights_in;
+use crate::names::types_in;
 use crate::says::done_with;
 use crate::says::edited;
 use crate::says::error;
@@ -18,6 +21,8 @@ use crate::says::reply;
 use crate::says::verdict;
 use crate::spaced::word;
 use crate::texts::Line;
+use crate::texts::answer;
+use crate::texts::first;
 use crate::texts::text;
 use access::needed_rights;
 use claims::Claim;
@@ -43,16 +48,16 @@ pub(crate) fn drop_host(line: &[u8], table: &mut [u8]) -> Line {
 
 pub(crate) fn audit(table: &[u8]) -> Line {
     if desk::audit(table) {
-        return text(b"yes");
+        return answer(kind::WORDS, 1, b"yes");
     }
     text(b"no")
 }
 
 // The rights that types need on the file.
 pub(crate) fn needs(line: &[u8], file: File) -> Line {
-    let types = amount(word(line, 1), MOST_16);
+    let types = types_in(word(line, 1));
     if !types.fits {
-        return error(b"TYPES is a number up to 65535");
+        return error(b"TYPES is a number up to 65535, or by name");
     }
     done_with(needed_rights(types.value as u16, file.dir) as u64)
 }
@@ -65,25 +70,25 @@ pub struct Request {
 
 fn request_in(line: &[u8]) -> Request {
     let host = amount(word(line, 1), MOST_16);
-    let types = amount(word(line, 2), MOST_16);
+    let types = types_in(word(line, 2));
     let file = word(line, 3);
-    let first = amount(word(line, 4), MOST_64);
-    let last = amount(word(line, 5), MOST_64);
+    let from = amount(word(line, 4), MOST_64);
+    let to = amount(word(line, 5), MOST_64);
     Request {
-        fits: host.fits & types.fits & are_bytes(file, 12) & first.fits & last.fits,
+        fits: host.fits & types.fits & are_bytes(file, 12) & from.fits & to.fits,
         claim: Claim {
             types: types.value as u16,
             host: host.value as u16,
             file: file_id(file),
-            first: first.value,
-            last: last.value,
+            first: from.value,
+            last: to.value,
         },
     }
 }
 
 fn misspelled_request() -> Line {
     error(
-        b"HOST and TYPES are numbers up to 65535, FILE is 24 hex digits, FIRST and LAST are numbers of 64 bits",
+        b"HOST and TYPES are numbers up to 65535, or TYPES by name, FILE is 24 hex digits, FIRST and LAST are numbers of 64 bits",
     )
 }
 
@@ -103,10 +108,9 @@ pub(crate) fn ask(
     let caller = memory.caller;
     let file = memory.file;
     let guard = memory.guard;
-    let t = least(memory.table, table.len());
     let o = least(memory.room, out.len());
     reply(desk::ask(
-        &table[0..t],
+        first(table, memory.table),
         claim,
         list,
         groups,
@@ -139,9 +143,11 @@ pub(crate) fn grant(
 pub(crate) fn give_back(line: &[u8], table: &mut [u8]) -> Line {
     let host = amount(word(line, 1), MOST_16);
     let number = amount(word(line, 2), MOST_64);
-    let types = amount(word(line, 3), MOST_16);
+    let types = types_in(word(line, 3));
     if !(host.fits & number.fits & types.fits) {
-        return error(b"HOST and TYPES are numbers up to 65535, NUMBER is one of 64 bits");
+        return error(
+            b"HOST and TYPES are numbers up to 65535, or TYPES by name, NUMBER is one of 64 bits",
+        );
     }
     reply(desk::give_back(table, host.value as u16, number.value, types.value as u16))
 }
@@ -174,7 +180,7 @@ fn is_realm(word: &[u8], kind: u64) -> bool {
 fn item_in(line: &[u8], rights: u64) -> Item
     requires { ⌜ rights ≤ 255 ⌝ }
 {
-    let kind = amount(word(line, 1), MOST_8);
+    let kind = kind_in(word(line, 1));
     let name = word(line, 2);
     let id = amount(word(line, 3), MOST_32);
     Item {
@@ -190,12 +196,12 @@ fn item_in(line: &[u8], rights: u64) -> Item
 
 fn misspelled_entry() -> Line {
     error(
-        b"KIND and RIGHTS are numbers up to 255, REALM is 32 hex digits or - where the kind has none, ID is a number of 32 bits",
+        b"KIND and RIGHTS are numbers up to 255, or by name, REALM is 32 hex digits or - where the kind has none, ID is a number of 32 bits",
     )
 }
 
 pub(crate) fn put(line: &[u8], list: &[u8], out: &mut [u8]) -> Line {
-    let rights = amount(word(line, 4), MOST_8);
+    let rights = rights_in(word(line, 4));
     let item = item_in(line, rights.value);
     if !(item.fits & rights.fits) {
         return misspelled_entry();
@@ -207,7 +213,7 @@ pub(crate) fn put(line: &[u8], list: &[u8], out: &mut [u8]) -> Line {
 // The rights byte of a drop may be given, and is ignored.
 pub(crate) fn unput(line: &[u8], list: &[u8], out: &mut [u8]) -> Line {
     let given = word(line, 4);
-    let rights = amount(given, MOST_8);
+    let rights = rights_in(given);
     let item = item_in(line, rights.value);
     if !(item.fits & (rights.fits | (given.len() == 0))) {
         return misspelled_entry();

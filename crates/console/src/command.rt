@@ -1,4 +1,4 @@
-// The commands: those with a name by its place among the names, then what else a line may be.
+// The commands: those with a name by the place of their line, then what else a line may be.
 pub(crate) const TABLE: usize = 0;
 
 pub(crate) const LOAD: usize = 1;
@@ -47,12 +47,48 @@ pub(crate) const PUT: usize = 22;
 
 pub(crate) const UNPUT: usize = 23;
 
-pub(crate) const EXPECT: usize = 24;
+pub(crate) const WORDS: usize = 24;
 
-pub(crate) const UNKNOWN: usize = 25;
+pub(crate) const HELP: usize = 25;
 
-pub(crate) const MISCOUNTED: usize = 26;
+pub(crate) const QUIT: usize = 26;
 
-pub(crate) const LONG: usize = 27;
+pub(crate) const EXPECT: usize = 27;
 
-pub(crate) const PASSED_OVER: usize = 28;
+pub(crate) const UNKNOWN: usize = 28;
+
+pub(crate) const MISCOUNTED: usize = 29;
+
+pub(crate) const LONG: usize = 30;
+
+pub(crate) const PASSED_OVER: usize = 31;
+
+// How a line of each command is written.
+pub(crate) const LINES: [u8; 479] = *b"table N | table hex BYTES\n\
+    load FILE\n\
+    save FILE\n\
+    list BYTES\n\
+    keep [LENGTH]\n\
+    caller REALM USER GROUP [GROUP..]\n\
+    file OWNER GROUP file|dir\n\
+    guard list | guard mode REALM MODE\n\
+    room BYTES\n\
+    show table|list|caller|file|guard | show out LENGTH\n\
+    held\n\
+    records\n\
+    total\n\
+    fill\n\
+    drop HOST\n\
+    audit\n\
+    ask HOST TYPES FILE FIRST LAST\n\
+    grant HOST TYPES FILE FIRST LAST\n\
+    return HOST NUMBER TYPES\n\
+    check\n\
+    rights\n\
+    needs TYPES\n\
+    put KIND REALM ID RIGHTS\n\
+    unput KIND REALM ID [RIGHTS]\n\
+    words on|off\n\
+    help [COMMAND]\n\
+    quit\n\
+    = ANSWER\n";

@@ -1,36 +1,32 @@
-// The command of a line.
+// The command of a line, and how its line is written.
 use crate::command;
 use crate::spaced::count;
+use crate::spaced::part;
 use crate::spaced::word;
+use crate::texts::NEWLINE;
 use check::same;
 
 const HASH: u8 = 35;
 
-// Which of some words this one is; past the last where it is none of them.
-pub(crate) fn place_among(name: &[u8], names: &[u8]) -> usize {
-    let n = count(names);
+// The command of a name.
+pub(crate) fn named(name: &[u8]) -> usize {
+    let lines: &[u8] = &command::LINES;
     let mut k = 0;
-    while k < n {
-        if same(name, word(names, k)) {
+    while k < command::UNKNOWN {
+        if same(name, word(part(lines, k, NEWLINE), 0)) {
             return k;
         }
         k += 1;
     }
-    n
-}
-
-fn named(name: &[u8]) -> usize {
-    place_among(
-        name,
-        b"table load save list keep caller file guard room show held records total fill drop audit ask grant return check rights needs put unput =",
-    )
+    command::UNKNOWN
 }
 
 // The fewest words of a command's line, its name among them.
 fn fewest(command: usize) -> usize {
     match command {
-        command::TABLE | command::LOAD | command::SAVE | command::LIST | command::KEEP => 2,
-        command::GUARD | command::ROOM | command::DROP | command::SHOW | command::NEEDS => 2,
+        command::TABLE | command::LOAD | command::SAVE | command::LIST => 2,
+        command::GUARD | command::ROOM | command::DROP | command::SHOW => 2,
+        command::NEEDS | command::WORDS => 2,
         command::CALLER | command::FILE | command::RETURN | command::UNPUT => 4,
         command::PUT => 5,
         command::ASK | command::GRANT => 6,
@@ -39,10 +35,10 @@ fn fewest(command: usize) -> usize {
 }
 
 // How many more there may be: `table hex BYTES`, `guard mode REALM MODE`, `show out LENGTH`, a caller's further groups, the
-// rights of a drop.
+// length that is kept, the rights of a drop, the command to help with.
 fn optional(command: usize) -> usize {
     match command {
-        command::TABLE | command::SHOW | command::UNPUT => 1,
+        command::TABLE | command::SHOW | command::KEEP | command::UNPUT | command::HELP => 1,
         command::GUARD => 2,
         command::CALLER => 40,
         command::EXPECT | command::UNKNOWN => 16384,

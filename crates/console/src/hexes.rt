@@ -1,5 +1,6 @@
 // Bytes as hex digits, read and written.
 use crate::texts::Line;
+use crate::texts::ROOM;
 use crate::texts::text;
 use crate::texts::write;
 use claims::FileId;
@@ -107,7 +108,7 @@ pub(crate) fn file_id(word: &[u8]) -> FileId {
 
 // With a byte's digits; a line that is full is printed first, and another begun.
 fn with_byte(line: Line, byte: u8) -> Line {
-    if line.length < 256 {
+    if line.length < ROOM {
         return line.hex(byte as u64, 2);
     }
     line.print();

@@ -1,7 +1,8 @@
 // The tokens of a table in words.
+use crate::names::TYPES;
+use crate::names::with_names;
 use crate::says::done_with;
 use crate::says::refused;
-use crate::spaced::word;
 use crate::texts::Line;
 use crate::texts::text;
 use claims::Claim;
@@ -12,31 +13,10 @@ use table::refusal::NOT_WELL_FORMED;
 use table::well_formed;
 ghost use Prim.Native.Nat.{_≤_};
 
-// With the name of a type, after those of k others.
-fn with_type(line: Line, k: usize) -> Line
-    requires { ⌜ k ≤ 7 ⌝ }
-{
-    let names =
-        b"data read data write status read status write lock read lock write open shared open exclusive";
-    line.with(b", ")
-        .with(word(names, k * 2))
-        .with(b" ")
-        .with(word(names, k * 2 + 1))
-}
-
-// With the names of the types, the lowest bit's first.
-fn with_types(line: Line, types: u16) -> Line {
-    let mut all = line;
-    let mut left = types;
-    let mut k = 0;
-    while k < 8 {
-        if left % 2 == 1 {
-            all = with_type(all, k);
-        }
-        left /= 2;
-        k += 1;
-    }
-    all
+pub(crate) fn with_token(line: Line, number: u64, host: u16, types: u16) -> Line {
+    let head = line.counted(b"number ", number)
+        .counted(b", host ", host as u64);
+    with_names(head, types as u64, &TYPES)
 }
 
 fn with_range(line: Line, claim: Claim) -> Line {
@@ -49,9 +29,8 @@ fn with_range(line: Line, claim: Claim) -> Line {
 }
 
 fn token(number: u64, claim: Claim) {
-    let head = text(b"number ").counted(b"", number)
-        .counted(b", host ", claim.host as u64);
-    with_range(with_types(head, claim.types), claim).print_line();
+    let head = with_token(text(b""), number, claim.host, claim.types);
+    with_range(head, claim).print_line();
 }
 
 // Answers how many tokens a slot holds.

@@ -6,8 +6,11 @@ use crate::expecting::expect;
 use crate::expecting::tell;
 use crate::expecting::total;
 use crate::files;
+use crate::helping::help;
+use crate::helping::miscounted;
 use crate::holding::held;
 use crate::listing::records;
+use crate::meaning::mean;
 use crate::memory::Memory;
 use crate::memory::first_ids;
 use crate::memory::least;
@@ -15,6 +18,7 @@ use crate::memory::start;
 use crate::reading::Typed;
 use crate::reading::next_line;
 use crate::remembering::remember;
+use crate::says::done;
 use crate::says::error;
 use crate::setting;
 use crate::showing::show;
@@ -53,8 +57,7 @@ fn by_list(
     room: usize,
     out: &mut [u8],
 ) -> Line {
-    let n = least(n, list.len());
-    let list = &list[0..n];
+    let list = first(list, n);
     let room = least(room, out.len());
     let out = &mut out[0..room];
     match command {
@@ -62,22 +65,6 @@ fn by_list(
         command::RECORDS => records(list),
         command::PUT => calls::put(line, list, out),
         _ => calls::unput(line, list, out),
-    }
-}
-
-// Those, and the commands that set it.
-fn on_list(
-    command: usize,
-    line: &[u8],
-    n: usize,
-    list: &mut [u8],
-    room: usize,
-    out: &mut [u8],
-) -> Line {
-    match command {
-        command::LIST => setting::list(line, list),
-        command::KEEP => setting::keep(line, list, out),
-        _ => by_list(command, line, n, list, room, out),
     }
 }
 
@@ -90,8 +77,7 @@ fn by_rights(
     list: &[u8],
     out: &mut [u8],
 ) -> Line {
-    let n = least(memory.list, list.len());
-    let list = &list[0..n];
+    let list = first(list, memory.list);
     let all = memory.groups;
     let groups = first_ids(&all, memory.further);
     match command {
@@ -105,7 +91,7 @@ fn by_rights(
 fn alone(command: usize, line: &[u8], memory: Memory) -> Line {
     let file = memory.file;
     match command {
-        command::SHOW => show(line, memory.table, memory.list),
+        command::SHOW => show(line, memory),
         command::NEEDS => calls::needs(line, file),
         command::TOTAL => total(memory.met, memory.missed),
         _ => by_line(command, line),
@@ -119,7 +105,10 @@ fn by_line(command: usize, line: &[u8]) -> Line {
         command::CALLER => setting::caller(line),
         command::FILE => setting::file(line),
         command::GUARD => setting::guard(line),
-        command::MISCOUNTED => error(b"wrong number of words"),
+        command::WORDS => setting::words(line),
+        command::HELP => help(line),
+        command::QUIT => done(),
+        command::MISCOUNTED => miscounted(line),
         command::LONG => error(b"a line has at most 16384 characters"),
         _ => error(b"unknown command"),
     }
@@ -137,12 +126,16 @@ fn answer(
         command::RIGHTS | command::ASK | command::GRANT => {
             by_rights(command, line, memory, table, list, out)
         }
-        command::LIST
-        | command::KEEP
-        | command::CHECK
-        | command::RECORDS
-        | command::PUT
-        | command::UNPUT => on_list(command, line, memory.list, list, memory.room, out),
+        command::KEEP => setting::keep(line, memory.edited, list, out),
+        command::LIST => setting::list(line, list),
+        command::CHECK | command::RECORDS | command::PUT | command::UNPUT => by_list(
+            command,
+            line,
+            memory.list,
+            list,
+            memory.room,
+            out,
+        ),
         command::TABLE
         | command::LOAD
         | command::SAVE
@@ -155,6 +148,12 @@ fn answer(
     }
 }
 
+// An answer, and with words on what it means.
+fn say(command: usize, said: Line, words: bool, n: usize, table: &[u8], list: &[u8], out: &[u8]) {
+    tell(said, table, list, out);
+    mean(words, command, said, first(list, n), out);
+}
+
 fn obey(
     command: usize,
     line: &[u8],
@@ -164,7 +163,7 @@ fn obey(
     out: &mut [u8],
 ) -> Memory {
     let said = answer(command, line, memory, table, list, out);
-    tell(said, table, list, out);
+    say(command, said, memory.words, memory.list, table, list, out);
     remember(command, line, said, memory)
 }
 
@@ -180,6 +179,7 @@ fn turn(
 ) -> Memory {
     let line = first(line, typed.length);
     let command = command_in(line, typed.long);
+    let memory = memory.with_manner(memory.words, typed.last | (command == command::QUIT));
     if command == command::PASSED_OVER {
         return memory;
     }
@@ -189,7 +189,7 @@ fn turn(
     obey(command, line, memory, table, list, out)
 }
 
-// To the end of the input; no input has so many lines.
+// To the end of the input, or to `quit`; no input has so many lines.
 pub(crate) fn serve(line: &mut [u8], table: &mut [u8], list: &mut [u8], out: &mut [u8]) {
     let mut memory = start();
     let mut number = 0u64;
@@ -197,7 +197,7 @@ pub(crate) fn serve(line: &mut [u8], table: &mut [u8], list: &mut [u8], out: &mu
         number += 1;
         let typed = next_line(line);
         memory = turn(typed, line, number, memory, table, list, out);
-        if typed.last {
+        if memory.over {
             return;
         }
     }

@@ -13,6 +13,8 @@ pub struct Memory {
     pub list: usize,
     // How many bytes of the output buffer are lent to a call.
     pub room: usize,
+    // How many of them are a list that an edit wrote; 0 where there is none.
+    pub edited: usize,
     pub caller: Caller,
     // The caller's further groups.
     pub groups: [u32; 40],
@@ -24,6 +26,10 @@ pub struct Memory {
     // How many answers were as expected, and how many not.
     pub met: u64,
     pub missed: u64,
+    // Whether each answer is followed by its meaning.
+    pub words: bool,
+    // Whether this line is the last.
+    pub over: bool,
 }
 
 pub(crate) fn start() -> Memory {
@@ -31,6 +37,7 @@ pub(crate) fn start() -> Memory {
         table: 0,
         list: 0,
         room: 16384,
+        edited: 0,
         caller: Caller {
             realm: Realm { hi: 0, lo: 0 },
             user: 0,
@@ -47,15 +54,31 @@ pub(crate) fn start() -> Memory {
         last: text(b""),
         met: 0,
         missed: 0,
+        words: false,
+        over: false,
     }
 }
 
 impl Memory {
-    pub(crate) fn with_lengths(self, table: usize, list: usize, room: usize) -> Memory {
+    pub(crate) fn with_lengths(
+        self,
+        table: usize,
+        list: usize,
+        room: usize,
+        edited: usize,
+    ) -> Memory {
         let mut next = self;
         next.table = table;
         next.list = list;
         next.room = room;
+        next.edited = edited;
+        next
+    }
+
+    pub(crate) fn with_manner(self, words: bool, over: bool) -> Memory {
+        let mut next = self;
+        next.words = words;
+        next.over = over;
         next
     }
 
@@ -82,6 +105,7 @@ impl Memory {
             table: self.table,
             list: self.list,
             room: self.room,
+            edited: self.edited,
             caller: caller,
             groups: groups,
             further: self.further,
@@ -90,6 +114,8 @@ impl Memory {
             last: last,
             met: self.met,
             missed: self.missed,
+            words: self.words,
+            over: self.over,
         }
     }
 

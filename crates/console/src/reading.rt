@@ -1,9 +1,16 @@
 // Standard input, line by line.
+use crate::spaced::SPACE;
+use crate::texts::NEWLINE;
 use libc::STDIN_FILENO;
 
-const NEWLINE: u8 = 10;
+const TAB: u8 = 9;
 
-// How much of a line is there, whether there was more than fits, and whether the input ended with it.
+const CARRIAGE_RETURN: u8 = 13;
+
+// A line has at most so many characters.
+const LONGEST: usize = 16384;
+
+// How much of a line is there, whether it is too long, and whether the input ended with it.
 pub struct Typed {
     pub length: usize,
     pub long: bool,
@@ -25,6 +32,14 @@ fn next_key() -> Key {
     }
 }
 
+// A tab separates words as a space does.
+fn untabbed(letter: u8) -> u8 {
+    if letter == TAB {
+        return SPACE;
+    }
+    letter
+}
+
 fn take(letter: u8, typed: Typed, line: &mut [u8]) -> Typed {
     let n = typed.length;
     if line.len() <= n {
@@ -34,11 +49,34 @@ fn take(letter: u8, typed: Typed, line: &mut [u8]) -> Typed {
             last: false,
         };
     }
-    line[n] = letter;
+    line[n] = untabbed(letter);
     Typed {
         length: n + 1,
         long: typed.long,
         last: false,
+    }
+}
+
+// The length of a line without a carriage return at its end.
+fn unreturned(line: &[u8], n: usize) -> usize {
+    if n == 0 {
+        return 0;
+    }
+    if line.len() < n {
+        return n;
+    }
+    if line[n - 1] == CARRIAGE_RETURN {
+        return n - 1;
+    }
+    n
+}
+
+fn ended(line: &[u8], typed: Typed, last: bool) -> Typed {
+    let n = unreturned(line, typed.length);
+    Typed {
+        length: n,
+        long: typed.long | (LONGEST < n),
+        last: last,
     }
 }
 
@@ -55,11 +93,10 @@ pub(crate) fn next_line(line: &mut [u8]) -> Typed {
         turns -= 1;
         let key = next_key();
         if !key.pressed {
-            typed.last = true;
-            return typed;
+            return ended(line, typed, true);
         }
         if key.letter == NEWLINE {
-            return typed;
+            return ended(line, typed, false);
         }
         typed = take(key.letter, typed, line);
     }

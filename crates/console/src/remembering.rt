@@ -1,6 +1,7 @@
 // What is remembered after a line that was understood.
 use crate::amounts::MOST_32;
 use crate::amounts::amount;
+use crate::amounts::mode;
 use crate::command;
 use crate::hexes::realm;
 use crate::kind;
@@ -65,16 +66,35 @@ fn guard_in(line: &[u8]) -> Guard {
     }
     Guard::Mode {
         realm: realm(word(line, 2)),
-        mode: id(line, 3),
+        mode: mode(word(line, 3)).value as u32,
     }
 }
 
-// What a command sets, if it was understood.
+// What the output buffer has of an edit, after an edit or an ask, which writes over it where it lists a token.
+fn edit_after(command: usize, edited: usize, n: usize) -> usize {
+    if command != command::ASK {
+        return n;
+    }
+    if n == 0 {
+        return edited;
+    }
+    0
+}
+
+// What a command sets, if it was understood and not refused.
 fn learn(command: usize, line: &[u8], n: usize, memory: Memory) -> Memory {
+    let table = memory.table;
+    let list = memory.list;
+    let room = memory.room;
+    let edited = memory.edited;
     match command {
-        command::TABLE | command::LOAD => memory.with_lengths(n, memory.list, memory.room),
-        command::LIST | command::KEEP => memory.with_lengths(memory.table, n, memory.room),
-        command::ROOM => memory.with_lengths(memory.table, memory.list, n),
+        command::TABLE | command::LOAD => memory.with_lengths(n, list, room, edited),
+        command::LIST | command::KEEP => memory.with_lengths(table, n, room, edited),
+        command::ROOM => memory.with_lengths(table, list, n, edited),
+        command::PUT | command::UNPUT | command::ASK => {
+            memory.with_lengths(table, list, room, edit_after(command, edited, n))
+        }
+        command::WORDS => memory.with_manner(same(word(line, 1), b"on"), memory.over),
         command::CALLER => with_caller(line, memory),
         command::FILE => memory.with_file(file_in(line)),
         command::GUARD => memory.with_guard(guard_in(line)),
@@ -84,7 +104,7 @@ fn learn(command: usize, line: &[u8], n: usize, memory: Memory) -> Memory {
 
 pub(crate) fn remember(command: usize, line: &[u8], said: Line, memory: Memory) -> Memory {
     let next = memory.saying(said);
-    if said.kind == kind::ERROR {
+    if said.kind != kind::WORDS {
         return next;
     }
     learn(command, line, said.size, next)

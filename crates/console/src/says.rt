@@ -23,12 +23,12 @@ pub(crate) fn error(why: &[u8]) -> Line {
 }
 
 pub(crate) fn refused(number: u8) -> Line {
-    text(b"refused ").counted(b"", number as u64)
+    answer(kind::REFUSED, number as usize, b"refused ").counted(b"", number as u64)
 }
 
 // With the place, or the true count.
 pub(crate) fn refused_with(number: u8, value: u64) -> Line {
-    refused(number).counted(b" ", value)
+    refused(number).at(value as usize).counted(b" ", value)
 }
 
 pub(crate) fn reply(reply: Reply) -> Line {
@@ -58,6 +58,7 @@ pub(crate) fn edited(edited: Edited) -> Line {
 // The rights, and the deciding record by its start and length.
 fn decided(rights: u8, start: usize, size: usize) -> Line {
     done_with(rights as u64)
+        .at(start)
         .counted(b" ", start as u64)
         .counted(b" ", size as u64)
 }

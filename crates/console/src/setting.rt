@@ -1,11 +1,15 @@
-// The commands that set what the calls go by: the table's bytes, the list, the room for output, the caller, the file, its guard.
+// The commands that set what the calls go by: the table's bytes, the list, the room for output, the caller, the file, its guard;
+// and whether answers are put in words.
+use crate::amounts::Given;
 use crate::amounts::MOST_32;
 use crate::amounts::amount;
+use crate::amounts::mode;
 use crate::hexes::are_bytes;
 use crate::hexes::is_dash;
 use crate::hexes::write_bytes;
 use crate::kind;
 use crate::memory::least;
+use crate::names::place_among;
 use crate::says::done;
 use crate::says::done_with;
 use crate::says::error;
@@ -13,6 +17,7 @@ use crate::spaced::count;
 use crate::spaced::word;
 use crate::texts::Line;
 use crate::texts::answer;
+use crate::texts::first;
 use crate::texts::paste;
 use check::same;
 use table::WIDTH;
@@ -46,7 +51,7 @@ fn take(word: &[u8], buffer: &mut [u8]) -> Line {
         return error(b"BYTES are hex digits, two for each, or -");
     }
     let n = least(word.len() / 2, buffer.len());
-    write_bytes(word, &mut buffer[0..n]);
+    write_bytes(word, buffer);
     done_with(n as u64)
 }
 
@@ -71,15 +76,34 @@ pub(crate) fn list(line: &[u8], list: &mut [u8]) -> Line {
     take(word(line, 1), list)
 }
 
-// The first bytes of the output buffer become the list.
-pub(crate) fn keep(line: &[u8], list: &mut [u8], out: &[u8]) -> Line {
-    let length = amount(word(line, 1), MOST_OUT);
-    if !length.fits {
-        return error(b"LENGTH is a number up to 16384");
+// How much is kept: what LENGTH says, or else what the last edit wrote.
+fn kept(given: &[u8], edited: usize) -> Given {
+    if given.len() == 0 {
+        return Given {
+            fits: edited != 0,
+            value: edited as u64,
+        };
     }
-    let n = least(length.value as usize, out.len());
-    paste(&out[0..n], list, 0);
-    done_with(n as u64)
+    amount(given, MOST_OUT)
+}
+
+fn not_kept(given: &[u8]) -> Line {
+    if given.len() == 0 {
+        return error(b"no edit has written a list");
+    }
+    error(b"LENGTH is a number up to 16384")
+}
+
+// The first bytes of the output buffer become the list.
+pub(crate) fn keep(line: &[u8], edited: usize, list: &mut [u8], out: &[u8]) -> Line {
+    let given = word(line, 1);
+    let length = kept(given, edited);
+    if !length.fits {
+        return not_kept(given);
+    }
+    let bytes = first(out, length.value as usize);
+    paste(bytes, list, 0);
+    done_with(bytes.len() as u64)
 }
 
 pub(crate) fn room(line: &[u8]) -> Line {
@@ -110,16 +134,16 @@ pub(crate) fn caller(line: &[u8]) -> Line {
 }
 
 pub(crate) fn file(line: &[u8]) -> Line {
-    let what = word(line, 3);
-    if !(are_ids(line, 1, 3) & (same(what, b"dir") | same(what, b"file"))) {
+    let what = place_among(word(line, 3), b"file dir");
+    if !(are_ids(line, 1, 3) & (what < 2)) {
         return error(b"OWNER and GROUP are numbers of 32 bits, then file or dir");
     }
     done()
 }
 
-fn mode(line: &[u8]) -> Line {
-    if !(are_bytes(word(line, 2), 16) & are_ids(line, 3, 4)) {
-        return error(b"REALM is 32 hex digits, MODE a number of 32 bits");
+fn by_mode(line: &[u8]) -> Line {
+    if !(are_bytes(word(line, 2), 16) & mode(word(line, 3)).fits) {
+        return error(b"REALM is 32 hex digits, MODE a number of 32 bits, or octal as in 0o640");
     }
     done()
 }
@@ -127,10 +151,17 @@ fn mode(line: &[u8]) -> Line {
 pub(crate) fn guard(line: &[u8]) -> Line {
     let what = word(line, 1);
     if same(what, b"mode") {
-        return mode(line);
+        return by_mode(line);
     }
     if !(same(what, b"list") & (count(line) == 2)) {
         return error(b"guard list, or guard mode REALM MODE");
+    }
+    done()
+}
+
+pub(crate) fn words(line: &[u8]) -> Line {
+    if 2 <= place_among(word(line, 1), b"on off") {
+        return error(b"words on, or words off");
     }
     done()
 }

@@ -1,49 +1,53 @@
-// The words of a line, which spaces separate.
+// The parts of a text, which a letter separates: the words of a line, the lines of a text.
 ghost use Prim.Native.Nat.{_≤_};
 ghost use lib.ListN.{length};
 
-const SPACE: u8 = 32;
+pub(crate) const SPACE: u8 = 32;
 
-// The first place from a place on that holds no space, or that holds one; the line's end where there is none.
-fn past(line: &[u8], from: usize, spaces: bool) -> usize
-    ensures { λ r. ⌜ (r ≤ length (now (line .entry))) × (from ≤ length (now (line .entry)) → from ≤ r) ⌝ }
+// The first place from a place on that holds no gap, or that holds one; the text's end where there is none.
+fn past(text: &[u8], from: usize, gap: u8, gaps: bool) -> usize
+    ensures { λ r. ⌜ (r ≤ length (now (text .entry))) × (from ≤ length (now (text .entry)) → from ≤ r) ⌝ }
 {
     let mut at = from;
-    while at < line.len() {
-        if (line[at] == SPACE) != spaces {
+    while at < text.len() {
+        if (text[at] == gap) != gaps {
             return at;
         }
         at += 1;
     }
-    line.len()
+    text.len()
 }
 
-// The place of the word after k others; the line's end where there is none.
-fn place(line: &[u8], k: usize) -> usize
-    ensures { λ r. ⌜ r ≤ length (now (line .entry)) ⌝ }
+// The place of the part after k others; the text's end where there is none.
+fn place(text: &[u8], k: usize, gap: u8) -> usize
+    ensures { λ r. ⌜ r ≤ length (now (text .entry)) ⌝ }
 {
-    let mut at = past(line, 0, true);
+    let mut at = past(text, 0, gap, true);
     let mut i = 0;
     while i < k {
-        at = past(line, past(line, at, false), true);
+        at = past(text, past(text, at, gap, false), gap, true);
         i += 1;
     }
     at
 }
 
-// The word after k others; empty where there is none.
+// The part after k others; empty where there is none.
+pub(crate) fn part<'a>(text: &'a [u8], k: usize, gap: u8) -> &'a [u8] {
+    let start = place(text, k, gap);
+    let end = past(text, start, gap, false);
+    &text[start..end]
+}
+
 pub(crate) fn word<'a>(line: &'a [u8], k: usize) -> &'a [u8] {
-    let start = place(line, k);
-    let end = past(line, start, false);
-    &line[start..end]
+    part(line, k, SPACE)
 }
 
 // How many words a line has.
 pub(crate) fn count(line: &[u8]) -> usize {
-    let mut at = past(line, 0, true);
+    let mut at = past(line, 0, SPACE, true);
     let mut n = 0;
     while at < line.len() {
-        at = past(line, past(line, at + 1, false), true);
+        at = past(line, past(line, at + 1, SPACE, false), SPACE, true);
         n += 1;
     }
     n
@@ -66,7 +70,7 @@ fn end_from(line: &[u8], from: usize) -> usize
 
 // The line after its first word, without the spaces around it.
 pub(crate) fn rest<'a>(line: &'a [u8]) -> &'a [u8] {
-    let start = place(line, 1);
+    let start = place(line, 1, SPACE);
     let end = end_from(line, start);
     &line[start..end]
 }

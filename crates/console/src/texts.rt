@@ -6,13 +6,20 @@ use libc::STDOUT_FILENO;
 ghost use mathlib.Core.Path.{_≡_};
 ghost use lib.ListN.{length};
 
-// Its first letters; there is room for the longest line, a token of all types.
+pub(crate) const NEWLINE: u8 = 10;
+
+// There is room for the longest line, a caller with all further groups.
+pub(crate) const ROOM: usize = 512;
+
+// Its first letters.
 pub struct Line {
-    pub letters: [u8; 256],
+    pub letters: [u8; ROOM],
     pub length: usize,
-    // What it is as an answer, and the length that is shown, or set.
+    // What it is as an answer, and the number that it gives: a length that is shown or set, rights, a count, a refusal.
     pub kind: u8,
     pub size: usize,
+    // The place, or the true count, of a refusal; the place of the deciding record.
+    pub place: usize,
 }
 
 // Letters to standard output.
@@ -44,16 +51,22 @@ pub(crate) fn paste(letters: &[u8], buffer: &mut [u8], at: usize) -> usize
 
 pub(crate) fn answer(kind: u8, size: usize, letters: &[u8]) -> Line {
     let none = Line {
-        letters: [0u8; 256],
+        letters: [0u8; ROOM],
         length: 0,
         kind: kind,
         size: size,
+        place: 0,
     };
     none.with(letters)
 }
 
 pub(crate) fn text(letters: &[u8]) -> Line {
     answer(kind::WORDS, 0, letters)
+}
+
+// A line under an answer.
+pub(crate) fn indented() -> Line {
+    text(b"  ")
 }
 
 impl Line {
@@ -65,7 +78,14 @@ impl Line {
             length: end,
             kind: self.kind,
             size: self.size,
+            place: self.place,
         }
+    }
+
+    pub(crate) fn at(self, place: usize) -> Line {
+        let mut next = self;
+        next.place = place;
+        next
     }
 
     // Some letters, then a number.

@@ -1,6 +1,6 @@
 use Prim.Native.Nat.{_-_}
-use borrow.Author.Needs.{needs}
 use lib.ListN.{length}
+use borrow.Author.Needs.{needs}
 use Rattle.console.proofs.amounts.amount.Statement.{statement}
 use Rattle.console.proofs.amounts.amount.Tie as tie
 

@@ -5,10 +5,10 @@ use Rattle.console.proofs.spaced.past.Statement.{statement}
 use Rattle.console.proofs.spaced.past.Tie as tie
 
 abbrev Inv-loop : tie.InvT-loop
-Inv-loop line from spaces at₀ at = from ≤ at
+Inv-loop text from gap gaps at₀ at = from ≤ at
 
 abbrev μ-loop : tie.MeasureT-loop
-μ-loop line from spaces at₀ at = length line - at
+μ-loop text from gap gaps at₀ at = length text - at
 
 pub past-spec : {M : Type 1} → statement M
 past-spec =

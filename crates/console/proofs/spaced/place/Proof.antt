@@ -5,10 +5,10 @@ use Rattle.console.proofs.spaced.place.Statement.{statement}
 use Rattle.console.proofs.spaced.place.Tie as tie
 
 abbrev Inv-loop : tie.InvT-loop
-Inv-loop line k at₀ i₀ at i = at ≤ length line
+Inv-loop text k gap at₀ i₀ at i = at ≤ length text
 
 abbrev μ-loop : tie.MeasureT-loop
-μ-loop line k at₀ i₀ at i = k - i
+μ-loop text k gap at₀ i₀ at i = k - i
 
 pub place-spec : {M : Type 1} → statement M
 place-spec =

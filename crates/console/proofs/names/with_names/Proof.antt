@@ -1,25 +1,25 @@
 use Prim.Native.Nat.{_-_}
 use borrow.Author.Needs.{needs}
-use Rattle.console.proofs.commands.place_among.Statement.{statement}
-use Rattle.console.proofs.commands.place_among.Tie as tie
+use Rattle.console.proofs.names.with_names.Statement.{statement}
+use Rattle.console.proofs.names.with_names.Tie as tie
 
 abbrev Inv-loop : tie.InvT-loop
-Inv-loop name names n k₀ k = Unit {0}
+Inv-loop set names all₀ k₀ all k = Unit {0}
 
 abbrev μ-loop : tie.MeasureT-loop
-μ-loop name names n k₀ k = n - k
+μ-loop set names all₀ k₀ all k = 8 - k
 
-pub place-among-spec : {M : Type 1} → statement M
-place-among-spec =
+pub with-names-spec : {M : Type 1} → statement M
+with-names-spec =
     tie.close
     (tie.spec
     Inv-loop
     μ-loop
-    (λ c κs. search needs)
     (λ c. search needs)
     (λ c κs. search needs)
     (λ c κs. search needs)
-    (λ c. search needs)
+    (λ c κs. search needs)
+    (λ c κs. search needs)
     (λ c. search needs)
     (λ c. search needs)
     (λ c. search needs)

@@ -1,9 +1,9 @@
 use borrow.Author.Needs.{needs}
-use Rattle.console.proofs.spaced.word.Statement.{statement}
-use Rattle.console.proofs.spaced.word.Tie as tie
+use Rattle.console.proofs.spaced.part.Statement.{statement}
+use Rattle.console.proofs.spaced.part.Tie as tie
 
-pub word-spec : {M : Type 1} → statement M
-word-spec =
+pub part-spec : {M : Type 1} → statement M
+part-spec =
     tie.close
     (tie.spec
     (λ c κs. search needs)

@@ -1,16 +1,16 @@
 use Prim.Native.Nat.{_-_}
 use borrow.Author.Needs.{needs}
-use Rattle.console.proofs.holding.with_types.Statement.{statement}
-use Rattle.console.proofs.holding.with_types.Tie as tie
+use Rattle.console.proofs.names.with_letters.Statement.{statement}
+use Rattle.console.proofs.names.with_letters.Tie as tie
 
 abbrev Inv-loop : tie.InvT-loop
-Inv-loop types all₀ left₀ k₀ all left k = Unit {0}
+Inv-loop rights all₀ k₀ all k = Unit {0}
 
 abbrev μ-loop : tie.MeasureT-loop
-μ-loop types all₀ left₀ k₀ all left k = 8 - k
+μ-loop rights all₀ k₀ all k = 6 - k
 
-pub with-types-spec : {M : Type 1} → statement M
-with-types-spec =
+pub with-letters-spec : {M : Type 1} → statement M
+with-letters-spec =
     tie.close
     (tie.spec
     Inv-loop
