@@ -57,7 +57,7 @@ pub(crate) fn audit(table: &[u8]) -> Line {
 pub(crate) fn needs(line: &[u8], file: File) -> Line {
     let types = types_in(word(line, 1));
     if !types.fits {
-        return error(b"TYPES is a number up to 65535, or by name");
+        return error(b"TYPES is a number up to 65535");
     }
     done_with(needed_rights(types.value as u16, file.dir) as u64)
 }
@@ -88,7 +88,7 @@ fn request_in(line: &[u8]) -> Request {
 
 fn misspelled_request() -> Line {
     error(
-        b"HOST and TYPES are numbers up to 65535, or TYPES by name, FILE is 24 hex digits, FIRST and LAST are numbers of 64 bits",
+        b"HOST and TYPES are numbers up to 65535, FILE is 24 hex digits, FIRST and LAST are numbers of 64 bits",
     )
 }
 
@@ -145,9 +145,7 @@ pub(crate) fn give_back(line: &[u8], table: &mut [u8]) -> Line {
     let number = amount(word(line, 2), MOST_64);
     let types = types_in(word(line, 3));
     if !(host.fits & number.fits & types.fits) {
-        return error(
-            b"HOST and TYPES are numbers up to 65535, or TYPES by name, NUMBER is one of 64 bits",
-        );
+        return error(b"HOST and TYPES are numbers up to 65535, NUMBER is one of 64 bits");
     }
     reply(desk::give_back(table, host.value as u16, number.value, types.value as u16))
 }
@@ -196,7 +194,7 @@ fn item_in(line: &[u8], rights: u64) -> Item
 
 fn misspelled_entry() -> Line {
     error(
-        b"KIND and RIGHTS are numbers up to 255, or by name, REALM is 32 hex digits or - where the kind has none, ID is a number of 32 bits",
+        b"KIND and RIGHTS are numbers up to 255, REALM is 32 hex digits or - where the kind has none, ID is a number of 32 bits",
     )
 }
 

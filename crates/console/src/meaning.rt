@@ -7,6 +7,7 @@ use crate::memory::least;
 use crate::names::RIGHTS;
 use crate::names::with_names;
 use crate::sentences::AUDITED_NO;
+use crate::sentences::CLEAR;
 use crate::sentences::EDITED;
 use crate::sentences::FREED;
 use crate::sentences::GRANTED;
@@ -78,6 +79,14 @@ fn print_entries(out: &[u8], n: usize) {
     }
 }
 
+fn print_asked(out: &[u8], n: usize) {
+    if n == 0 {
+        sentence(CLEAR).print_line();
+        return;
+    }
+    print_entries(out, n);
+}
+
 fn print_answer(command: usize, said: Line, list: &[u8], out: &[u8]) {
     let n = said.size;
     match command {
@@ -86,7 +95,7 @@ fn print_answer(command: usize, said: Line, list: &[u8], out: &[u8]) {
             print_decided(list, said.place);
         }
         command::NEEDS => print_rights(n),
-        command::ASK => print_entries(out, n),
+        command::ASK => print_asked(out, n),
         _ => print_done(command, n),
     }
 }

@@ -5,29 +5,29 @@ use crate::texts::NEWLINE;
 use crate::texts::indented;
 
 // The refusals from 10 to 24, those from 30 to 37, then the others by the numbers below. Some go before a number.
-const SENTENCES: [u8; 1026] = *b"list over 4,096 bytes, at place\n\
-    the list does not begin with kind 1, at place\n\
+const SENTENCES: [u8; 948] = *b"list over 4,096 bytes, at place\n\
+    the list does not begin with default_realm, at place\n\
     unknown kind, at place\n\
     body cut short, at place\n\
     rights above 63, at place\n\
     out of order or repeated, at place\n\
-    forbidden realm, or a local realm that is unknown, at place\n\
+    forbidden realm, at place\n\
     user_obj, group_obj or other_obj missing, at place\n\
-    kind 6 or above present, no mask_obj, at place\n\
+    no mask_obj, which kinds 6 and above need, at place\n\
     user_obj lacks control, at place\n\
-    edit: nothing to drop\n\
-    edit: output too short\n\
+    nothing to drop\n\
+    output too short\n\
     mode above 511\n\
     more than 32 groups\n\
     a needed right is missing\n\
-    table not well formed (fill: bad length only)\n\
+    table not well formed\n\
     host 0, types 0 or above 255, or first above last\n\
-    grant: a conflict exists\n\
-    grant: no free slot\n\
-    grant: no number is left\n\
-    ask: list buffer too short, the true count is\n\
-    return: no such token of this host\n\
-    return: a type that the token lacks\n\
+    a conflict exists\n\
+    no free slot\n\
+    no number is left\n\
+    list buffer too short, the true count is\n\
+    no such token of this host\n\
+    a type that the token lacks\n\
     the token has number\n\
     tokens freed:\n\
     keep makes it the list; its length is\n\
@@ -35,7 +35,8 @@ const SENTENCES: [u8; 1026] = *b"list over 4,096 bytes, at place\n\
     the table is well formed, its numbers differ and nothing conflicts\n\
     the list passes\n\
     no record decides\n\
-    no rights\n";
+    no rights\n\
+    nothing is in the way\n";
 
 pub(crate) const GRANTED: usize = 23;
 
@@ -51,6 +52,8 @@ pub(crate) const PASSES: usize = 28;
 pub(crate) const NOT_DECIDED: usize = 29;
 
 pub(crate) const NO_RIGHTS: usize = 30;
+
+pub(crate) const CLEAR: usize = 31;
 
 const BUFFER_TOO_SHORT: usize = 35;
 

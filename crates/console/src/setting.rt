@@ -143,7 +143,7 @@ pub(crate) fn file(line: &[u8]) -> Line {
 
 fn by_mode(line: &[u8]) -> Line {
     if !(are_bytes(word(line, 2), 16) & mode(word(line, 3)).fits) {
-        return error(b"REALM is 32 hex digits, MODE a number of 32 bits, or octal as in 0o640");
+        return error(b"REALM is 32 hex digits, MODE a number of 32 bits");
     }
     done()
 }
