@@ -2,11 +2,11 @@
  * Here each call has its rules in short; docs/RULES.md has them whole.
  *
  * Every call ends with an answer, or with a refusal by its number; a refusal leaves every lent byte as it was. This
- * holds for any bytes and any numbers, so nothing has to be tested before a call. Where several refusals hold, the one
- * given is the first in the order that the call's comment names. A table that was filled, or to which the audit said
- * yes, and then changed by these calls alone never holds two tokens that conflict, and from there on no number is given
- * twice. All this is proved of the raw calls. The easy calls after them make the same calls; they, the readers and the
- * names are plain C, tested.
+ * holds for any bytes and any numbers, so none of them has to be tested before a call. Where several refusals hold, the
+ * one given is the first in the order that the call's comment names. A table that was filled, or to which the audit
+ * said yes, and then changed by these calls alone never holds two tokens that conflict, and from there on no number is
+ * given twice. All this is proved of the raw calls. The easy calls after them make the same calls; they, the readers
+ * and the names are plain C, tested.
  *
  * What no proof can see, the caller must ensure:
  *
