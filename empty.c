@@ -1,2 +1,0 @@
-#include "mastarik.h"
-typedef int nothing;
