@@ -482,14 +482,20 @@ static bool slot_fits(const uint8_t *slot, uint64_t next)
            read64(slot + FIRST_AT) <= read64(slot + LAST_AT) && number >= 1 && number < next;
 }
 
+/* The types that no other host may hold beside these: a family's second, and beside a second its first as well. */
+static unsigned rival_types(unsigned types)
+{
+    unsigned seconds = (types | types << 1) & SECOND_TYPES;
+    unsigned firsts = types >> 1 & FIRST_TYPES;
+    return seconds | firsts;
+}
+
 /* The types of a slot that conflict with a claim; none of a free slot. */
 static uint8_t conflicting_types(const uint8_t *slot, const mastarik_claim *claim)
 {
     if (read16(slot + HOST_AT) == claim->host || memcmp(slot + FILE_AT, claim->file, FILE_SIZE) != 0)
         return 0;
-    unsigned seconds = (claim->types | claim->types << 1) & SECOND_TYPES;
-    unsigned firsts = claim->types >> 1 & FIRST_TYPES;
-    unsigned types = read16(slot + TYPES_AT) & (seconds | firsts);
+    unsigned types = read16(slot + TYPES_AT) & rival_types(claim->types);
     if (claim->first > read64(slot + LAST_AT) || read64(slot + FIRST_AT) > claim->last)
         types &= WHOLE_FILE_TYPES;
     return (uint8_t)types;
@@ -606,6 +612,23 @@ static void write_slot(uint8_t *slot, const mastarik_claim *claim, uint64_t numb
     write64(slot + NUMBER_AT, number);
 }
 
+/* The refusals that a grant has beside those of any request, 32 to 34, or 0. */
+static uint32_t judge_grant(const struct survey *seen, uint64_t next)
+{
+    if (seen->conflicts > 0)
+        return MASTARIK_CONFLICT;
+    if (seen->free_place == 0)
+        return MASTARIK_NO_FREE_SLOT;
+    return next == UINT64_MAX ? MASTARIK_NUMBERS_SPENT : 0;
+}
+
+/* Writes a claim into a free slot under the next number. */
+static void enter(uint8_t *table, size_t place, const mastarik_claim *claim, uint64_t next)
+{
+    write_slot(table + place, claim, next);
+    write64(table + NUMBER_AT, next + 1);
+}
+
 mastarik_answer by_hand_grant(uint8_t *table, size_t table_length, mastarik_claim claim, const uint8_t *list,
                               size_t list_length, const uint32_t *groups, size_t group_count, mastarik_caller caller,
                               mastarik_file file)
@@ -615,16 +638,80 @@ mastarik_answer by_hand_grant(uint8_t *table, size_t table_length, mastarik_clai
     mastarik_answer answer = judge_request(&seen, &claim, &access);
     if (answer.refused)
         return answer;
-    if (seen.conflicts > 0)
-        return refuse(MASTARIK_CONFLICT, 0);
-    if (seen.free_place == 0)
-        return refuse(MASTARIK_NO_FREE_SLOT, 0);
     uint64_t next = read64(table + NUMBER_AT);
-    if (next == UINT64_MAX)
-        return refuse(MASTARIK_NUMBERS_SPENT, 0);
-    write_slot(table + seen.free_place, &claim, next);
-    write64(table + NUMBER_AT, next + 1);
+    uint32_t refused = judge_grant(&seen, next);
+    if (refused)
+        return refuse(refused, 0);
+    enter(table, seen.free_place, &claim, next);
     return (mastarik_answer){.value = next};
+}
+
+/* What one pass finds where the widest range is wanted: beside the rest, what the rivals seen leave of all bytes. */
+struct wide_survey {
+    struct survey seen;
+    uint64_t first, last;
+};
+
+/* The types of a slot that would conflict with a claim over all bytes; none of a free slot. */
+static unsigned rivals_in(const uint8_t *slot, const mastarik_claim *claim)
+{
+    if (read16(slot + HOST_AT) == claim->host || memcmp(slot + FILE_AT, claim->file, FILE_SIZE) != 0)
+        return 0;
+    return read16(slot + TYPES_AT) & rival_types(claim->types);
+}
+
+/* A rival with a byte of the claim's is in the way; another leaves the side of it on which the claim is. */
+static void pass_rival(struct wide_survey *told, const uint8_t *slot, const mastarik_claim *claim, unsigned rivals)
+{
+    uint64_t first = read64(slot + FIRST_AT), last = read64(slot + LAST_AT);
+    if (last < claim->first)
+        told->first = told->first > last ? told->first : last + 1;
+    else if (first > claim->last)
+        told->last = told->last < first ? told->last : first - 1;
+    else
+        rivals = WHOLE_FILE_TYPES;
+    told->seen.conflicts += (rivals & WHOLE_FILE_TYPES) != 0;
+}
+
+static struct wide_survey survey_widest(const uint8_t *table, size_t length, const mastarik_claim *claim)
+{
+    struct wide_survey told = {.last = UINT64_MAX};
+    if (!header_fits(table, length))
+        return told;
+    uint64_t next = read64(table + NUMBER_AT);
+    for (size_t place = SLOT_SIZE; place < length; place += SLOT_SIZE) {
+        const uint8_t *slot = table + place;
+        if (!slot_fits(slot, next))
+            return told;
+        unsigned rivals;
+        if (slot[0] == FREE_SLOT) {
+            if (told.seen.free_place == 0)
+                told.seen.free_place = place;
+        } else if ((rivals = rivals_in(slot, claim)) != 0) {
+            pass_rival(&told, slot, claim, rivals);
+        }
+    }
+    told.seen.well_formed = true;
+    return told;
+}
+
+mastarik_answer by_hand_grant_widest(uint8_t *table, size_t table_length, mastarik_claim claim, const uint8_t *list,
+                                     size_t list_length, const uint32_t *groups, size_t group_count,
+                                     mastarik_caller caller, mastarik_file file)
+{
+    struct access access = {list, list_length, groups, group_count, &caller, &file};
+    struct wide_survey told = survey_widest(table, table_length, &claim);
+    mastarik_answer answer = judge_request(&told.seen, &claim, &access);
+    if (answer.refused)
+        return answer;
+    uint64_t next = read64(table + NUMBER_AT);
+    uint32_t refused = judge_grant(&told.seen, next);
+    if (refused)
+        return refuse(refused, 0);
+    claim.first = told.first;
+    claim.last = told.last;
+    enter(table, told.seen.free_place, &claim, next);
+    return (mastarik_answer){.value = next, .first = told.first, .last = told.last};
 }
 
 mastarik_answer by_hand_return(uint8_t *table, size_t table_length, uint16_t host, uint64_t number, uint16_t types)

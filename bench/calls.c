@@ -15,6 +15,8 @@ struct calls {
                            mastarik_caller, mastarik_file, uint8_t *, size_t);
     mastarik_answer (*grant)(uint8_t *, size_t, mastarik_claim, const uint8_t *, size_t, const uint32_t *, size_t,
                              mastarik_caller, mastarik_file);
+    mastarik_answer (*grant_widest)(uint8_t *, size_t, mastarik_claim, const uint8_t *, size_t, const uint32_t *,
+                                    size_t, mastarik_caller, mastarik_file);
     mastarik_answer (*give_back)(uint8_t *, size_t, uint16_t, uint64_t, uint16_t);
     mastarik_answer (*drop_host)(uint8_t *, size_t, uint16_t);
     mastarik_answer (*audit)(const uint8_t *, size_t);
@@ -22,10 +24,11 @@ struct calls {
 
 static const struct calls calls_of[SIDES] = {
     [LIBRARY] = {mastarik_check, mastarik_rights, mastarik_needs, mastarik_new_list, mastarik_put_entry,
-                 mastarik_drop_entry, mastarik_fill, mastarik_ask, mastarik_grant, mastarik_return,
-                 mastarik_drop_host, mastarik_audit},
+                 mastarik_drop_entry, mastarik_fill, mastarik_ask, mastarik_grant, mastarik_grant_widest,
+                 mastarik_return, mastarik_drop_host, mastarik_audit},
     [BY_HAND] = {by_hand_check, by_hand_rights, by_hand_needs, by_hand_new_list, by_hand_put_entry, by_hand_drop_entry,
-                 by_hand_fill, by_hand_ask, by_hand_grant, by_hand_return, by_hand_drop_host, by_hand_audit},
+                 by_hand_fill, by_hand_ask, by_hand_grant, by_hand_grant_widest, by_hand_return, by_hand_drop_host,
+                 by_hand_audit},
 };
 
 mastarik_answer make_call(enum side side, enum call call, const struct input *in, const struct lent *at)
@@ -53,6 +56,9 @@ mastarik_answer make_call(enum side side, enum call call, const struct input *in
     case GRANT:
         return calls->grant(at->table, in->table_length, in->claim, at->list, in->list_length, at->groups,
                             in->group_count, in->caller, in->file);
+    case GRANT_WIDEST:
+        return calls->grant_widest(at->table, in->table_length, in->claim, at->list, in->list_length, at->groups,
+                                   in->group_count, in->caller, in->file);
     case RETURN:
         return calls->give_back(at->table, in->table_length, in->host, in->number, in->types);
     case DROP_HOST:

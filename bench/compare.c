@@ -8,6 +8,7 @@
 #include "histories.h"
 #include "inputs.h"
 #include "readers.h"
+#include "widest.h"
 
 /* The refusals that a run must bring up, call by call; 0 ends a row. */
 static const uint8_t refusals[CALLS][20] = {
@@ -19,6 +20,7 @@ static const uint8_t refusals[CALLS][20] = {
     [FILL] = {30},
     [ASK] = {10, 11, 12, 13, 14, 15, 16, 17, 18, 19, 22, 23, 24, 30, 31, 35},
     [GRANT] = {10, 11, 12, 13, 14, 15, 16, 17, 18, 19, 22, 23, 24, 30, 31, 32, 33, 34},
+    [GRANT_WIDEST] = {10, 11, 12, 13, 14, 15, 16, 17, 18, 19, 22, 23, 24, 30, 31, 32, 33, 34},
     [RETURN] = {30, 31, 36, 37},
     [DROP_HOST] = {30, 31},
 };
@@ -151,6 +153,17 @@ static bool make_any_table(bool calm)
     return false;
 }
 
+/* A widest grant of the request, often with the tokens parted; the table is then as it was. */
+static void compare_widest_aside(bool well_formed)
+{
+    static uint8_t table[TABLE_ROOM];
+    memcpy(table, input.table, input.table_length);
+    if (well_formed && draw_chance(50))
+        part_tokens(&input);
+    compare_widest(&input);
+    memcpy(input.table, table, input.table_length);
+}
+
 static void compare_request(void)
 {
     bool well_formed = make_any_table(draw_chance(20)), generous = draw_chance(80);
@@ -166,6 +179,7 @@ static void compare_request(void)
     compare_call_backs(&input, answer.value);
     make_out(answer.value * MASTARIK_CALL_BACK_SIZE, MASTARIK_CALL_BACK_SIZE);
     lockstep(ASK, &input);
+    compare_widest_aside(well_formed);
     lockstep(GRANT, &input);
 }
 
@@ -251,6 +265,7 @@ static unsigned print_summary(void)
     missing += print_tally("put entry, list passing", &puts_to_passing, put_refusals);
     missing += print_tally("drop entry, list passing", &drops_from_passing, drop_refusals);
     missing += lockstep_print_empty();
+    missing += widest_print_kinds();
     printf("rights decided by no record: %" PRIu64 "; by kind:", decided[0]);
     for (int kind = 2; kind < 12; kind++)
         printf(" %d x %" PRIu64, kind, decided[kind]);

@@ -35,6 +35,8 @@ mastarik_answer make_easy_call(enum call call, const struct input *in, const str
         return mastarik_easy_ask(table, table_length, in->claim, &access, out, room);
     case GRANT:
         return mastarik_easy_grant(table, table_length, in->claim, &access);
+    case GRANT_WIDEST:
+        return mastarik_easy_grant_widest(table, table_length, in->claim, &access);
     case RETURN:
         return mastarik_easy_return(table, table_length, in->host, in->number, in->types);
     case DROP_HOST:

@@ -5,10 +5,14 @@
 
 #include "draw.h"
 #include "inputs.h"
+#include "widest.h"
 
 enum { ENTRY_SIZE = MASTARIK_CALL_BACK_SIZE, SLOT_LIMIT = 40 };
 
 static struct input input, scratch;
+
+/* In a history of pieces every claim is of one byte's data: so tokens stand apart, and a widest grant between them. */
+static bool of_pieces;
 
 static void expect_audit(struct input *in)
 {
@@ -49,7 +53,12 @@ static void follow_ask(size_t count, struct history_counts *counts)
 
 static void make_request(void)
 {
-    make_claim(&input, draw_chance(97));
+    bool sound = draw_chance(97);
+    make_claim(&input, sound);
+    if (of_pieces && sound) {
+        input.claim.types = draw_chance(50) ? MASTARIK_DATA_READ : MASTARIK_DATA_WRITE;
+        input.claim.last = input.claim.first;
+    }
     if (draw_chance(20))
         make_list(&input, true);
     make_access(&input, draw_chance(97));
@@ -70,7 +79,10 @@ static void step(struct history_counts *counts)
             follow_ask(answer.value, counts);
     } else if (kind < 79) {
         make_request();
-        lockstep(GRANT, &input);
+        if (draw_chance(30))
+            compare_widest(&input);
+        else
+            lockstep(GRANT, &input);
     } else if (kind < 98) {
         make_return(&input);
         lockstep(RETURN, &input);
@@ -82,7 +94,7 @@ static void step(struct history_counts *counts)
     counts->steps++;
 }
 
-/* Fills the table; some histories start with the last few numbers only. */
+/* Fills the table; some histories start with the last few numbers only, and some are of pieces. */
 static void begin(void)
 {
     input.table_length = MASTARIK_SLOT_SIZE * (2 + draw_below(draw_chance(50) ? 4 : SLOT_LIMIT));
@@ -92,6 +104,7 @@ static void begin(void)
         memset(input.table + 33, 255, 8);
         input.table[40] = (uint8_t)(150 + draw_below(106));
     }
+    of_pieces = draw_chance(30);
     expect_audit(&input);
 }
 

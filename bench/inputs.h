@@ -34,6 +34,11 @@ void make_claim(struct input *input, bool sound);
 /* A well formed table of so many slots; in a calm one numbers differ and nothing conflicts. */
 void make_table(struct input *input, size_t slots, bool calm);
 
+/* Moves the tokens of a well formed table off the claim's range, leaves them types with a range alone, and frees a
+ * slot: what conflicts with the claim then bounds it.
+ */
+void part_tokens(struct input *input);
+
 /* Writes a token as the bytes of its slot. */
 void put_token(uint8_t *slot, const mastarik_token *token);
 

@@ -11,8 +11,8 @@
 #include "draw.h"
 #include "easy.h"
 
-const char *const call_names[CALLS] = {"check", "rights", "needs", "new list", "put entry", "drop entry",
-                                       "fill",  "ask",    "grant", "return",   "drop host", "audit"};
+const char *const call_names[CALLS] = {"check", "rights", "needs",        "new list", "put entry", "drop entry", "fill",
+                                       "ask",   "grant",  "widest grant", "return",   "drop host", "audit"};
 
 static const char *const side_names[SIDES] = {"library", "by hand"};
 
@@ -33,6 +33,7 @@ static const struct {
     [FILL] = {1 << TABLE, 1 << TABLE},
     [ASK] = {1 << LIST | 1 << GROUPS | 1 << TABLE | 1 << OUT, 1 << OUT},
     [GRANT] = {1 << LIST | 1 << GROUPS | 1 << TABLE, 1 << TABLE},
+    [GRANT_WIDEST] = {1 << LIST | 1 << GROUPS | 1 << TABLE, 1 << TABLE},
     [RETURN] = {1 << TABLE, 1 << TABLE},
     [DROP_HOST] = {1 << TABLE, 1 << TABLE},
     [AUDIT] = {1 << TABLE, 0},
@@ -116,15 +117,21 @@ static void print_numbers(const struct input *in)
     printf("host %d, number %" PRIu64 ", types %d\n", in->host, in->number, in->types);
 }
 
+static void print_answer(const char *name, const mastarik_answer *answer)
+{
+    printf("%s: refused %" PRIu32 ", value %" PRIu64 ", detail %" PRIu64 ", start %zu, length %zu, first %" PRIu64
+           ", last %" PRIu64 "\n",
+           name, answer->refused, answer->value, answer->detail, answer->start, answer->length, answer->first,
+           answer->last);
+}
+
 /* Prints what was lent and answered at the last call, and ends the program. */
 static _Noreturn void report(const char *what, const struct input *input)
 {
     printf("DIFFERENCE: %s\nseed %" PRIu64 ", %s, round %" PRIu64 ", call %s\n", what, group_seed, group_name,
            group_round, call_names[last_call]);
     for (enum side side = 0; side < SIDES; side++)
-        printf("%s: refused %" PRIu32 ", value %" PRIu64 ", detail %" PRIu64 ", start %zu, length %zu\n",
-               side_names[side], answers[side].refused, answers[side].value, answers[side].detail, answers[side].start,
-               answers[side].length);
+        print_answer(side_names[side], &answers[side]);
     print_numbers(input);
     for (enum buffer buffer = 0; buffer < BUFFERS; buffer++) {
         if (!(uses[last_call].lent & 1u << buffer))
@@ -164,7 +171,7 @@ static void compare_buffer(struct input *input, enum buffer buffer)
 static bool same_answer(mastarik_answer a, mastarik_answer b)
 {
     return a.refused == b.refused && a.value == b.value && a.detail == b.detail && a.start == b.start &&
-           a.length == b.length;
+           a.length == b.length && a.first == b.first && a.last == b.last;
 }
 
 void tally_add(struct tally *tally, mastarik_answer answer)

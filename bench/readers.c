@@ -167,6 +167,7 @@ void compare_fixed(void)
     mastarik_easy_fill(spelled.table, length);
     expect(mastarik_easy_rights(NULL).refused == MASTARIK_NO_DEFAULT_REALM &&
                mastarik_easy_ask(spelled.table, length, claim, NULL, NULL, 0).refused == MASTARIK_NO_DEFAULT_REALM &&
-               mastarik_easy_grant(spelled.table, length, claim, NULL).refused == MASTARIK_NO_DEFAULT_REALM,
+               mastarik_easy_grant(spelled.table, length, claim, NULL).refused == MASTARIK_NO_DEFAULT_REALM &&
+               mastarik_easy_grant_widest(spelled.table, length, claim, NULL).refused == MASTARIK_NO_DEFAULT_REALM,
            "an access that is NULL is not refused", &spelled);
 }

@@ -12,8 +12,12 @@
 
 enum { SLOT_SIZE = MASTARIK_SLOT_SIZE, OWNER = 2, NOBODY = 8, FILE_GROUP = 4, FIRST_USER = 7, FIRST_GROUP = 1000 };
 
-/* What a table holds: every second slot, or all; each token on its own file, or all on one. */
-enum held { EMPTY, HALF, FULL, ONE_FILE };
+/* What a table holds: every second slot, or all; each token on its own file, or all on one; or all slots but the last,
+ * on one file on both sides of a gap.
+ */
+enum held { EMPTY, HALF, FULL, ONE_FILE, APART };
+
+enum { GAP = 4096 };
 
 /* Who calls: the user of the last user record, or one whom the last of five further groups helps, at home or not. */
 enum who { NAMED, BY_GROUPS, STRANGER };
@@ -42,6 +46,12 @@ static const struct row rows[] = {
     {.name = "grant, half full", .call = GRANT, .slots = 1024, .held = HALF, .home = 1},
     {.name = "grant, full (33)", .call = GRANT, .slots = 1024, .held = FULL, .home = 1, .refused = 33},
     {.name = "grant, one file (32)", .call = GRANT, .slots = 1024, .held = ONE_FILE, .home = 1, .refused = 32},
+    {.name = "widest grant, empty", .call = GRANT_WIDEST, .slots = 1024, .held = EMPTY, .home = 1},
+    {.name = "widest grant, half full", .call = GRANT_WIDEST, .slots = 1024, .held = HALF, .home = 1},
+    {.name = "widest grant, full (33)", .call = GRANT_WIDEST, .slots = 1024, .held = FULL, .home = 1, .refused = 33},
+    {.name = "widest grant, one file (32)", .call = GRANT_WIDEST, .slots = 1024, .held = ONE_FILE, .home = 1,
+     .refused = 32},
+    {.name = "widest grant, one file, bounded", .call = GRANT_WIDEST, .slots = 1024, .held = APART, .home = 1},
     {.name = "return, empty (36)", .call = RETURN, .slots = 1024, .held = EMPTY, .refused = 36},
     {.name = "return, half full", .call = RETURN, .slots = 1024, .held = HALF},
     {.name = "return, full", .call = RETURN, .slots = 1024, .held = FULL},
@@ -87,6 +97,9 @@ static const struct row rows[] = {
     {.name = "grant, half full, n = 64", .call = GRANT, .slots = 64, .held = HALF, .home = 1},
     {.name = "grant, half full, n = 256", .call = GRANT, .slots = 256, .held = HALF, .home = 1},
     {.name = "grant, half full, n = 1024", .call = GRANT, .slots = 1024, .held = HALF, .home = 1},
+    {.name = "widest grant, half full, n = 64", .call = GRANT_WIDEST, .slots = 64, .held = HALF, .home = 1},
+    {.name = "widest grant, half full, n = 256", .call = GRANT_WIDEST, .slots = 256, .held = HALF, .home = 1},
+    {.name = "widest grant, half full, n = 1024", .call = GRANT_WIDEST, .slots = 1024, .held = HALF, .home = 1},
     {.name = "audit, half full, n = 64", .call = AUDIT, .slots = 64, .held = HALF},
     {.name = "audit, half full, n = 256", .call = AUDIT, .slots = 256, .held = HALF},
     {.name = "audit, half full, n = 1024", .call = AUDIT, .slots = 1024, .held = HALF},
@@ -178,11 +191,30 @@ static void prepare_entry(const struct row *row)
     input.out_length = sizeof input.out;
 }
 
-/* Token i has byte i of its file for reading; hosts 1 and 2 take turns. */
+static unsigned tokens_of(const struct row *row)
+{
+    switch (row->held) {
+    case EMPTY:
+        return 0;
+    case HALF:
+        return row->slots / 2u;
+    case APART:
+        return row->slots - 1u;
+    default:
+        return row->slots;
+    }
+}
+
+static bool is_one_file(const struct row *row)
+{
+    return row->held == ONE_FILE || row->held == APART;
+}
+
+/* Token i has byte i of its file for reading, past a gap in the middle if there is one; hosts 1 and 2 take turns. */
 static void prepare_table(const struct row *row)
 {
     uint8_t *slot = input.table;
-    unsigned step = row->held == HALF ? 2 : 1, count = row->held == EMPTY ? 0 : row->slots / step;
+    unsigned step = row->held == HALF ? 2 : 1, count = tokens_of(row);
     input.table_length = SLOT_SIZE * (1u + row->slots);
     memset(slot, 0, input.table_length);
     slot[0] = 2;
@@ -192,9 +224,10 @@ static void prepare_table(const struct row *row)
         slot[0] = 1;
         put16(slot + 1, MASTARIK_DATA_READ);
         put16(slot + 3, (uint16_t)(1 + i % 2));
-        put32(slot + 5, row->held == ONE_FILE ? 0 : i);
-        put64(slot + 17, i);
-        put64(slot + 25, i);
+        put32(slot + 5, is_one_file(row) ? 0 : i);
+        unsigned byte = row->held == APART && i >= row->slots / 2u ? GAP + i : i;
+        put64(slot + 17, byte);
+        put64(slot + 25, byte);
         put64(slot + 33, 1u + i);
     }
     input.host = row->host ? row->host : (uint16_t)(2 - count % 2);
@@ -202,12 +235,18 @@ static void prepare_table(const struct row *row)
     input.types = MASTARIK_DATA_READ;
 }
 
-/* A request that meets nothing, as its file is another; on a table of one file, the lower half of the tokens. */
+/* A request that meets nothing, as its file is another; on a table of one file, the lower half of the tokens, or the
+ * middle of the gap.
+ */
 static void prepare_claim(const struct row *row)
 {
     input.claim = (mastarik_claim){.types = MASTARIK_DATA_WRITE, .host = 3, .last = row->slots / 2u - 1};
-    if (row->held != ONE_FILE)
+    if (!is_one_file(row))
         memset(input.claim.file, 255, sizeof input.claim.file);
+    if (row->held == APART) {
+        input.claim.last += GAP / 2;
+        input.claim.first = input.claim.last;
+    }
 }
 
 static void prepare(const struct row *row)
@@ -232,7 +271,9 @@ static bool answers_as_meant(const struct row *row, enum side side)
 {
     prepare(row);
     mastarik_answer answer = call(row, side);
-    return answer.refused == row->refused && (row->call != AUDIT || answer.value == 1);
+    bool bounded = answer.first == row->slots / 2u && answer.last == row->slots / 2u + GAP - 1;
+    return answer.refused == row->refused && (row->call != AUDIT || answer.value == 1) &&
+           (row->held != APART || bounded);
 }
 
 static int print_rows(void)

@@ -168,6 +168,36 @@ void enlarge_table(struct input *in)
     in->table_length += added;
 }
 
+/* Draws a range of a few bytes beside another, next to it or not far, or up to a limit; no, where there is no room. */
+static bool draw_range_beside(const mastarik_claim *claim, uint64_t *first, uint64_t *last)
+{
+    uint64_t below = claim->first, above = UINT64_MAX - claim->last;
+    if (below == 0 && above == 0)
+        return false;
+    bool is_below = above == 0 || (below > 0 && draw_chance(50));
+    uint64_t room = is_below ? below : above, gap = draw_below(room < 4 ? room : 4);
+    uint64_t more = draw_chance(10) ? room - gap - 1 : draw_below(room - gap < 4 ? room - gap : 4);
+    *first = is_below ? claim->first - 1 - gap - more : claim->last + 1 + gap;
+    *last = *first + more;
+    return true;
+}
+
+void part_tokens(struct input *in)
+{
+    size_t slots = mastarik_slot_count(in->table_length), freed = draw_below(slots);
+    for (size_t slot = 0; slot < slots; slot++) {
+        uint8_t *bytes = in->table + SLOT_SIZE * (1 + slot);
+        mastarik_token token;
+        if (!mastarik_token_at(in->table, in->table_length, slot, &token))
+            continue;
+        token.claim.types = token.claim.types & 0x33 ? token.claim.types & 0x33 : 2;
+        if (slot != freed && draw_range_beside(&in->claim, &token.claim.first, &token.claim.last))
+            put_token(bytes, &token);
+        else
+            memset(bytes, 0, SLOT_SIZE);
+    }
+}
+
 /* A slot drawn from those with a token, or NULL. */
 static uint8_t *draw_held(struct input *in)
 {

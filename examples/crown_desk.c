@@ -11,9 +11,13 @@
 #define LAB 17, 17, 17, 17, 17, 17, 17, 17, 17, 17, 17, 17, 17, 17, 17, 17
 #define ELSEWHERE 34, 34, 34, 34, 34, 34, 34, 34, 34, 34, 34, 34, 34, 34, 34, 34
 
-/* Case 1 is the crown's: its design, then its notes. Cases 2 to 11 are others. */
+/* Case 1 is the crown's: its design, then its notes, then its scan, of 20 pieces. Cases 2 to 11 are others. */
 enum { CROWN = 1, LAST_CASE = 11, DESIGN_LAST = 49999, NOTES_FIRST = 50000, NOTES_LAST = 50999 };
-enum { SLOTS = 16, READ_WRITE = MASTARIK_READ | MASTARIK_WRITE, ALL_RIGHTS = 63 };
+enum { SCAN_FIRST = 51000, PIECE_SIZE = 1000, LAST_PIECE = 20 };
+
+/* The design station's twelve tokens leave some slots to the others. */
+enum { SLOTS = 16, SLOTS_LEFT = SLOTS - 12 };
+enum { READ_WRITE = MASTARIK_READ | MASTARIK_WRITE, ALL_RIGHTS = 63 };
 enum { TO_MILL = MASTARIK_DATA_READ | MASTARIK_OPEN_SHARED, TO_EDIT = MASTARIK_DATA_READ | MASTARIK_DATA_WRITE };
 
 /* A host, and who is logged in at it. */
@@ -146,6 +150,13 @@ static mastarik_claim claim_of(const struct station *who, uint16_t types, uint8_
     return (mastarik_claim){.types = types, .host = who->host, .file = {[11] = number}, .first = first, .last = last};
 }
 
+static void print_token(uint64_t number, uint64_t first, uint64_t last, uint16_t types)
+{
+    printf("token %" PRIu64 ", bytes %" PRIu64 " to %" PRIu64 ", ", number, first, last);
+    print_set(types, mastarik_type_name);
+    printf(".\n");
+}
+
 /* Claims a token for a station, and prints it or the refusal. */
 static uint64_t grant(const struct station *who, mastarik_claim claim, uint32_t refused)
 {
@@ -155,10 +166,20 @@ static uint64_t grant(const struct station *who, mastarik_claim claim, uint32_t 
     mastarik_answer answer = mastarik_easy_grant(table, sizeof table, claim, &access);
     settle("refusal of a grant", answer, refused, before);
     if (refused == 0) {
-        printf("token %" PRIu64 ", bytes %" PRIu64 " to %" PRIu64 ", ", answer.value, claim.first, claim.last);
-        print_set(claim.types, mastarik_type_name);
-        printf(".\n");
+        print_token(answer.value, claim.first, claim.last, claim.types);
     }
+    return answer.value;
+}
+
+/* Claims a token over the widest range that holds the claim's, expects it to be from first on, and prints it. */
+static uint64_t grant_widest(const struct station *who, mastarik_claim claim, uint64_t first)
+{
+    mastarik_access access = access_of(who);
+    mastarik_answer answer = mastarik_easy_grant_widest(table, sizeof table, claim, &access);
+    expect("refusal of a widest grant", answer.refused, 0);
+    expect("first byte of a widest grant", answer.first, first);
+    expect("last byte of a widest grant", answer.last, UINT64_MAX);
+    print_token(answer.value, answer.first, answer.last, claim.types);
     return answer.value;
 }
 
@@ -242,6 +263,37 @@ static void design_the_crown(void)
     }
 }
 
+static mastarik_claim piece_of_scan(const struct station *who, uint16_t types, int piece)
+{
+    uint64_t first = SCAN_FIRST + PIECE_SIZE * (uint64_t)(piece - 1);
+    return claim_of(who, types, CROWN, first, first + PIECE_SIZE - 1);
+}
+
+/* A token for each piece soon takes every slot; one widest grant serves for all. It begins after the notes, which the
+ * design station may write, and is in the way of a write to any piece.
+ */
+static void read_the_scan(void)
+{
+    uint64_t tokens[SLOTS_LEFT];
+    for (int i = 0; i < SLOTS_LEFT; i++) {
+        printf("09:00  The crown desk reads piece %d of the crown's scan: ", i + 1);
+        tokens[i] = grant(&crown_desk, piece_of_scan(&crown_desk, MASTARIK_DATA_READ, i + 1), 0);
+    }
+    mastarik_claim next = piece_of_scan(&crown_desk, MASTARIK_DATA_READ, SLOTS_LEFT + 1);
+    printf("09:01  It wants piece %d of %d: ", SLOTS_LEFT + 1, LAST_PIECE);
+    grant(&crown_desk, next, MASTARIK_NO_FREE_SLOT);
+    for (int i = 0; i < SLOTS_LEFT; i++) {
+        printf("09:02  It returns token %" PRIu64 ": ", tokens[i]);
+        give_back(&crown_desk, tokens[i], MASTARIK_DATA_READ, 0);
+    }
+    printf("09:03  It wants that piece once more, and the widest range around it: ");
+    uint64_t token = grant_widest(&crown_desk, next, SCAN_FIRST);
+    printf("09:20  Tokens in the design station's way, should it write piece %d: ", LAST_PIECE);
+    ask(&design_station, piece_of_scan(&design_station, MASTARIK_DATA_WRITE, LAST_PIECE), 1, MASTARIK_DATA_READ);
+    printf("09:30  The whole scan is read with one token; the crown desk returns it: ");
+    give_back(&crown_desk, token, MASTARIK_DATA_READ, 0);
+}
+
 /* Of the twelve tokens one is in the way, and of that one the write alone; once it is returned the mill is served. */
 static uint64_t move_the_seating(void)
 {
@@ -295,6 +347,7 @@ int main(void)
     mastarik_claim redesign = claim_of(&visitor, MASTARIK_DATA_WRITE, CROWN, 0, DESIGN_LAST);
     open_the_case();
     design_the_crown();
+    read_the_scan();
     uint64_t token = move_the_seating();
     receive_the_visitor(redesign);
     printf("11:50  The crown is milled, to be seated at noon; the mill returns token %" PRIu64 " whole: ", token);

@@ -13,8 +13,8 @@
  *   - raw calls: a pointer is never NULL, not even with a length of 0. The easy calls take NULL, as no bytes;
  *   - a pointer is aligned for what it points to, and a length is true: so many bytes (or group ids) stand at the
  *     pointer, and nothing but the call changes them while it runs;
- *   - a buffer that a call may write (the table of fill, grant, return and drop host, the out of ask and of an edit)
- *     overlaps no other buffer of the same call;
+ *   - a buffer that a call may write (the table of fill, grant, widest grant, return and drop host, the out of ask and
+ *     of an edit) overlaps no other buffer of the same call;
  *   - what is said of one file belongs together: the claim's file id, the list that is lent, owner, group and mode. So
  *     do the claim's host and the caller who sits at it, and that caller is who it says it is: one who was not
  *     authenticated is MASTARIK_ANONYMOUS;
@@ -43,12 +43,12 @@
 extern "C" {
 #endif
 
-/* The version of this header, as a number (10000 for 1.0.0) and as text. */
+/* The version of this header, as a number (10100 for 1.1.0) and as text. */
 #define MASTARIK_VERSION_MAJOR 1
-#define MASTARIK_VERSION_MINOR 0
+#define MASTARIK_VERSION_MINOR 1
 #define MASTARIK_VERSION_PATCH 0
 #define MASTARIK_VERSION (10000 * MASTARIK_VERSION_MAJOR + 100 * MASTARIK_VERSION_MINOR + MASTARIK_VERSION_PATCH)
-#define MASTARIK_VERSION_TEXT "1.0.0"
+#define MASTARIK_VERSION_TEXT "1.1.0"
 
 /* The refusals. 10 to 19 come with a place: the record's first byte, the list's length for 17 to 19, 0 for 10 and 11,
  * for an edit's kind and for an unknown local realm. 35 comes with the true count of tokens. */
@@ -136,6 +136,8 @@ typedef struct mastarik_answer {
     uint64_t detail;  /* on refusal: the place for 10 to 19, the true count for 35 */
     size_t start;     /* rights: the deciding record's place in the list */
     size_t length;    /* rights: its length, 0 where no record decides */
+    uint64_t first;   /* widest grant: the first byte of the token's range */
+    uint64_t last;    /* widest grant: its last byte */
 } mastarik_answer;
 
 /* Who asks; further groups are lent beside it, and belong to the same realm. */
@@ -247,6 +249,21 @@ mastarik_answer mastarik_grant(uint8_t *table, size_t table_length, mastarik_cla
                                size_t list_length, const uint32_t *groups, size_t group_count, mastarik_caller caller,
                                mastarik_file file);
 
+/* Grants as grant does, but over the largest range that holds the asked one and conflicts with nobody: value is the
+ * token's number, first and last are its range. So one token serves a host that reads a file in small pieces.
+ *
+ * On either side the range ends next to the nearest token that would be in the way (see ask) of the same request with
+ * the range 0 to 18,446,744,073,709,551,615, also where that token touches the asked range. Tokens of the same host, of
+ * another file, and without a conflicting type, as a read beside a read, do not bound it; where none does, and always
+ * with status and open types alone, it is 0 to 18,446,744,073,709,551,615. No wider range that holds the asked one
+ * could have been granted then.
+ *
+ * The token is held over all of that range, and in the way of others there. Refused exactly where and as grant is, with
+ * 30, 31, 23, 10 to 19, 22, 24, 32, 33, 34. */
+mastarik_answer mastarik_grant_widest(uint8_t *table, size_t table_length, mastarik_claim claim, const uint8_t *list,
+                                      size_t list_length, const uint32_t *groups, size_t group_count,
+                                      mastarik_caller caller, mastarik_file file);
+
 /* Takes types back from a host's token, over its whole range; with none left its slot is free. One type that the token
  * lacks refuses the whole return. Refused with 30, 31, 36, 37. */
 mastarik_answer mastarik_return(uint8_t *table, size_t table_length, uint16_t host, uint64_t number, uint16_t types);
@@ -258,7 +275,7 @@ mastarik_answer mastarik_drop_host(uint8_t *table, size_t table_length, uint16_t
  * refused. */
 mastarik_answer mastarik_audit(const uint8_t *table, size_t table_length);
 
-/* Who asks, and what guards the file: what rights, ask and grant judge. Later versions add fields at its end, in which
+/* Who asks, and what guards the file: what rights, ask and grants judge. Later versions add fields at its end, in which
  * zero says what there was before: so give fields by name, {.list = .., .caller = ..}, or begin with {0}, in C++ {}. */
 typedef struct mastarik_access {
     const uint8_t *list; /* NULL for none, where a mode guards the file */
@@ -349,6 +366,17 @@ static inline mastarik_answer mastarik_easy_grant(uint8_t *table, size_t table_l
     mastarik_access given = mastarik_inner_access(access, &none, &no_groups);
     return mastarik_grant(table != NULL ? table : &no_table, table != NULL ? table_length : 0, claim, given.list,
                           given.list_length, given.groups, given.group_count, given.caller, given.file);
+}
+
+static inline mastarik_answer mastarik_easy_grant_widest(uint8_t *table, size_t table_length, mastarik_claim claim,
+                                                         const mastarik_access *access)
+{
+    const uint8_t none = 0;
+    const uint32_t no_groups = 0;
+    uint8_t no_table = 0;
+    mastarik_access given = mastarik_inner_access(access, &none, &no_groups);
+    return mastarik_grant_widest(table != NULL ? table : &no_table, table != NULL ? table_length : 0, claim, given.list,
+                                 given.list_length, given.groups, given.group_count, given.caller, given.file);
 }
 
 static inline mastarik_answer mastarik_easy_return(uint8_t *table, size_t table_length, uint16_t host, uint64_t number,

@@ -5,9 +5,12 @@ use Prim.Native.Nat.{ℕ}
 use lib.Dec.{eqb, ltb}
 use Rattle.claims.specs.declared.claim.Claim.{Claim}
 
--- the same claim with other types
+-- the same claim with other types, and over another range
 abbrev pub withTypes : Claim → ℕ → Claim
 withTypes claim types = record { types = types; host = claim .host; file = claim .file; first = claim .first; last = claim .last }
+
+abbrev pub withRange : Claim → ℕ → ℕ → Claim
+withRange claim first last = record { types = claim .types; host = claim .host; file = claim .file; first = first; last = last }
 
 -- host 0, types 0 or above the limit
 unfoldable pub unfit : ℕ → ℕ → ℕ → Bool

@@ -3,6 +3,7 @@ use crate::amounts::MOST_16;
 use crate::amounts::MOST_32;
 use crate::amounts::MOST_64;
 use crate::amounts::amount;
+use crate::command;
 use crate::hexes::are_bytes;
 use crate::hexes::file_id;
 use crate::hexes::is_dash;
@@ -121,7 +122,9 @@ pub(crate) fn ask(
     ))
 }
 
+// A token with the asked range, or with the widest one.
 pub(crate) fn grant(
+    command: usize,
     line: &[u8],
     memory: Memory,
     table: &mut [u8],
@@ -137,7 +140,11 @@ pub(crate) fn grant(
     let file = memory.file;
     let guard = memory.guard;
     let t = least(memory.table, table.len());
-    reply(desk::grant(&mut table[0..t], claim, list, groups, caller, file, guard))
+    let table = &mut table[0..t];
+    if command == command::WIDEST {
+        return reply(desk::grant_widest(table, claim, list, groups, caller, file, guard));
+    }
+    reply(desk::grant(table, claim, list, groups, caller, file, guard))
 }
 
 pub(crate) fn give_back(line: &[u8], table: &mut [u8]) -> Line {

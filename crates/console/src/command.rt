@@ -35,36 +35,38 @@ pub(crate) const ASK: usize = 16;
 
 pub(crate) const GRANT: usize = 17;
 
-pub(crate) const RETURN: usize = 18;
+pub(crate) const WIDEST: usize = 18;
 
-pub(crate) const CHECK: usize = 19;
+pub(crate) const RETURN: usize = 19;
 
-pub(crate) const RIGHTS: usize = 20;
+pub(crate) const CHECK: usize = 20;
 
-pub(crate) const NEEDS: usize = 21;
+pub(crate) const RIGHTS: usize = 21;
 
-pub(crate) const PUT: usize = 22;
+pub(crate) const NEEDS: usize = 22;
 
-pub(crate) const UNPUT: usize = 23;
+pub(crate) const PUT: usize = 23;
 
-pub(crate) const WORDS: usize = 24;
+pub(crate) const UNPUT: usize = 24;
 
-pub(crate) const HELP: usize = 25;
+pub(crate) const WORDS: usize = 25;
 
-pub(crate) const QUIT: usize = 26;
+pub(crate) const HELP: usize = 26;
 
-pub(crate) const EXPECT: usize = 27;
+pub(crate) const QUIT: usize = 27;
 
-pub(crate) const UNKNOWN: usize = 28;
+pub(crate) const EXPECT: usize = 28;
 
-pub(crate) const MISCOUNTED: usize = 29;
+pub(crate) const UNKNOWN: usize = 29;
 
-pub(crate) const LONG: usize = 30;
+pub(crate) const MISCOUNTED: usize = 30;
 
-pub(crate) const PASSED_OVER: usize = 31;
+pub(crate) const LONG: usize = 31;
+
+pub(crate) const PASSED_OVER: usize = 32;
 
 // How a line of each command is written.
-pub(crate) const LINES: [u8; 479] = *b"table N | table hex BYTES\n\
+pub(crate) const LINES: [u8; 513] = *b"table N | table hex BYTES\n\
     load FILE\n\
     save FILE\n\
     list BYTES\n\
@@ -82,6 +84,7 @@ pub(crate) const LINES: [u8; 479] = *b"table N | table hex BYTES\n\
     audit\n\
     ask HOST TYPES FILE FIRST LAST\n\
     grant HOST TYPES FILE FIRST LAST\n\
+    widest HOST TYPES FILE FIRST LAST\n\
     return HOST NUMBER TYPES\n\
     check\n\
     rights\n\

@@ -29,7 +29,7 @@ fn fewest(command: usize) -> usize {
         command::NEEDS | command::WORDS => 2,
         command::CALLER | command::FILE | command::RETURN | command::UNPUT => 4,
         command::PUT => 5,
-        command::ASK | command::GRANT => 6,
+        command::ASK | command::GRANT | command::WIDEST => 6,
         _ => 1,
     }
 }

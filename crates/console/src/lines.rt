@@ -82,7 +82,9 @@ fn by_rights(
     let groups = first_ids(&all, memory.further);
     match command {
         command::RIGHTS => calls::rights(memory, list, groups),
-        command::GRANT => calls::grant(line, memory, table, list, groups),
+        command::GRANT | command::WIDEST => {
+            calls::grant(command, line, memory, table, list, groups)
+        }
         _ => calls::ask(line, memory, table, list, groups, out),
     }
 }
@@ -123,7 +125,7 @@ fn answer(
     out: &mut [u8],
 ) -> Line {
     match command {
-        command::RIGHTS | command::ASK | command::GRANT => {
+        command::RIGHTS | command::ASK | command::GRANT | command::WIDEST => {
             by_rights(command, line, memory, table, list, out)
         }
         command::KEEP => setting::keep(line, memory.edited, list, out),

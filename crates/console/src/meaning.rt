@@ -17,7 +17,9 @@ use crate::sentences::PASSES;
 use crate::sentences::counted;
 use crate::sentences::refusal;
 use crate::sentences::sentence;
+use crate::spaced::word;
 use crate::texts::Line;
+use crate::texts::first;
 use crate::texts::indented;
 use list::Read;
 use list::read_record;
@@ -37,6 +39,18 @@ fn print_done(command: usize, n: usize) {
         command::CHECK => sentence(PASSES).print_line(),
         _ => {}
     }
+}
+
+// A token of the widest range: its number, and its bytes as the answer's words have them.
+fn print_widest(said: Line) {
+    let all = said.letters;
+    let words = first(&all, said.length);
+    counted(GRANTED, said.size)
+        .with(b", bytes ")
+        .with(word(words, 2))
+        .with(b" to ")
+        .with(word(words, 3))
+        .print_line();
 }
 
 fn print_rights(rights: usize) {
@@ -96,6 +110,7 @@ fn print_answer(command: usize, said: Line, list: &[u8], out: &[u8]) {
         }
         command::NEEDS => print_rights(n),
         command::ASK => print_asked(out, n),
+        command::WIDEST => print_widest(said),
         _ => print_done(command, n),
     }
 }

@@ -31,10 +31,20 @@ pub(crate) fn refused_with(number: u8, value: u64) -> Line {
     refused(number).at(value as usize).counted(b" ", value)
 }
 
+// A token's number and its range.
+fn granted(number: u64, first: u64, last: u64) -> Line {
+    done_with(number).counted(b" ", first).counted(b" ", last)
+}
+
 pub(crate) fn reply(reply: Reply) -> Line {
     match reply {
         Reply::Done => done(),
         Reply::Value(n) => done_with(n),
+        Reply::Granted {
+            number,
+            first,
+            last,
+        } => granted(number, first, last),
         Reply::Refused { number } => refused(number),
         Reply::RefusedWith { number, value } => refused_with(number, value),
     }

@@ -1,7 +1,7 @@
 -- A request that is permitted goes on to the call's own; one that is not is refused after 30 and 31. Assumes nothing.
 use mathlib.Core.Path.{_≡_, refl, sym, _∙_}
 use mathlib.Core.Bool.{Bool, true, false}
-use mathlib.Core.List.{List, []}
+use mathlib.Core.List.{List, [], _∷_}
 use Prim.Native.Nat.{ℕ}
 use Rattle.words.specs.Test.{if_then_else_}
 use Rattle.words.specs.Said.{Said, done, refused, isDone, andThen}
@@ -18,10 +18,12 @@ use Rattle.table.specs.declared.reply.Reply.{Reply}
 use Rattle.table.specs.declared.reply.Reply.the-variants.{Refused}
 use Rattle.table.proofs.Calls.{says-ill, says-well}
 use Rattle.tokens.specs.Grant.{requestSays, serveSays, grantSays as plainGrantSays, Grants as GrantsPlain}
+use Rattle.tokens.specs.Widest.{withMore, Widened, GrantsWidest as GrantsWidestPlain}
 use Rattle.tokens.specs.Ask.{listSays, askSays as plainAskSays, Asks as AsksPlain}
 use Rattle.access.specs.Access.{Access, accessSays}
 use Rattle.desk.specs.Order.{judgedSays}
 use Rattle.desk.specs.Grant.{grantSays, Grants}
+use Rattle.desk.specs.Widest.{GrantsWidest}
 use Rattle.desk.specs.Ask.{askSays, Asks}
 use Rattle.desk.specs.Verdict.{Refuses}
 
@@ -40,6 +42,12 @@ refuses : (first verdict : Said) → isDone verdict ≡ false → isDone (andThe
 unfolding isDone andThen
 refuses (done values) verdict e = e
 refuses (refused number values) verdict e = refl
+
+-- what is refused gets no values more
+no-more : (more : List ℕ) (said : Said) → isDone said ≡ false → withMore more said ≡ said
+unfolding isDone withMore
+no-more more (done values) e = absurd (differ e)
+no-more more (refused number values) e = refl
 
 module _ (bytes : List ℕ) (claim : Claim) where
   module _ (verdict : Said) (own : Table → Said) where
@@ -90,6 +98,21 @@ module _ (bytes : List ℕ) (claim : Claim) where
           let e = permitted-says (accessSays access (claim .types)) (serveSays claim) fine in
           record { answer = g .answer ∙ sym e; table-after = g .table-after ∙ rw e refl }
 
+      pub widening : {r : Reply} {after : List ℕ} → GrantsWidestPlain bytes claim r after → GrantsWidest bytes claim access r after
+      unfolding grantSays plainGrantSays leftOf
+      widening g =
+          let e = permitted-says (accessSays access (claim .types)) (serveSays claim) fine in
+          let w = g .outcome in
+          record {
+            outcome = record {
+              first = w .first;
+              last = w .last;
+              widest = λ d. w .widest (rw (← e) d);
+              answer = w .answer ∙ rw e refl;
+              table-after = w .table-after ∙ rw e refl;
+            };
+          }
+
       pub asking : {out after : List ℕ} {r : Reply} → AsksPlain bytes claim out r after → Asks bytes claim access out r after
       unfolding askSays plainAskSays
       asking {out} a =
@@ -109,6 +132,20 @@ module _ (bytes : List ℕ) (claim : Claim) where
         answer = says (serveSays claim);
         table-after = sym (left-kept (saysOf (grantSays claim access) bytes) _ bytes (is-refused (accessSays access (claim .types)) (serveSays claim) wrong));
       }
+
+      pub not-widening : GrantsWidest bytes claim access r bytes
+      unfolding grantSays leftOf
+      not-widening =
+          let no = is-refused (accessSays access (claim .types)) (serveSays claim) wrong in
+          record {
+            outcome = record {
+              first = 0;
+              last = 0;
+              widest = λ d. absurd (differ (sym d ∙ no));
+              answer = says (serveSays claim) ∙ sym (no-more (0 ∷ 0 ∷ []) (saysOf (grantSays claim access) bytes) no);
+              table-after = sym (left-kept (saysOf (grantSays claim access) bytes) _ bytes no);
+            };
+          }
 
       pub not-asking : {out : List ℕ} → Asks bytes claim access out r out
       unfolding askSays

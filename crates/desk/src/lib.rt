@@ -1,7 +1,8 @@
-// The calls as the paper has them: ask and grant with access judged, the others as they are.
+// The calls as the paper has them: ask and the grants with access judged, the others as they are.
 mod asking;
 mod granting;
 mod refusing;
+mod widening;
 
 pub use asking::ask;
 pub use audit::audit;
@@ -9,3 +10,4 @@ pub use granting::grant;
 pub use returns::drop_host;
 pub use returns::give_back;
 pub use store::fill;
+pub use widening::grant_widest;

@@ -17,6 +17,11 @@ pub(crate) fn is_permitted(verdict: Reply) -> bool
     match verdict {
         Reply::Done => true,
         Reply::Value(_) => true,
+        Reply::Granted {
+            number: _,
+            first: _,
+            last: _,
+        } => true,
         Reply::Refused { number: _ } => false,
         Reply::RefusedWith {
             number: _,

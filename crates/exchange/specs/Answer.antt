@@ -9,8 +9,24 @@ use Rattle.exchange.specs.declared.answer.Answer.{Answer}
 
 -- with the deciding record's place and length
 unfoldable pub answerFor : Said → ℕ → ℕ → Answer
-answerFor (done values) start size = record { refused = 0; value = getD values 0 0; detail = 0; start = start; length = size }
-answerFor (refused number values) start size = record { refused = number; value = 0; detail = getD values 0 0; start = start; length = size }
+answerFor (done values) start size = record {
+  refused = 0;
+  value = getD values 0 0;
+  detail = 0;
+  start = start;
+  length = size;
+  first = getD values 1 0;
+  last = getD values 2 0;
+}
+answerFor (refused number values) start size = record {
+  refused = number;
+  value = 0;
+  detail = getD values 0 0;
+  start = start;
+  length = size;
+  first = 0;
+  last = 0;
+}
 
 unfoldable pub answerOf : Said → Answer
 answerOf says = answerFor says 0 0

@@ -24,10 +24,13 @@ pub struct Answer {
     // The deciding record.
     pub start: usize,
     pub length: usize,
+    // The range that was given.
+    pub first: u64,
+    pub last: u64,
 }
 
-fn done(value: u64) -> Answer
-    ensures { λ r. ⌜ r ≡ answerOf (done (value ∷ [])) ⌝ }
+fn ranged(value: u64, first: u64, last: u64) -> Answer
+    ensures { λ r. ⌜ r ≡ answerOf (done (value ∷ first ∷ last ∷ [])) ⌝ }
 {
     Answer {
         refused: 0,
@@ -35,7 +38,15 @@ fn done(value: u64) -> Answer
         detail: 0,
         start: 0,
         length: 0,
+        first,
+        last,
     }
+}
+
+fn done(value: u64) -> Answer
+    ensures { λ r. ⌜ r ≡ answerOf (done (value ∷ [])) ⌝ }
+{
+    ranged(value, 0, 0)
 }
 
 fn refused(number: u8, detail: u64) -> Answer
@@ -47,6 +58,8 @@ fn refused(number: u8, detail: u64) -> Answer
         detail: detail,
         start: 0,
         length: 0,
+        first: 0,
+        last: 0,
     }
 }
 
@@ -90,6 +103,11 @@ pub fn of_reply(reply: Reply) -> Answer
     match reply {
         Reply::Done => done(0),
         Reply::Value(n) => done(n),
+        Reply::Granted {
+            number,
+            first,
+            last,
+        } => ranged(number, first, last),
         Reply::Refused { number } => refused(number, 0),
         Reply::RefusedWith { number, value } => refused(number, value),
     }
@@ -116,5 +134,7 @@ pub fn of_found(found: Found) -> Answer
         detail: said.detail,
         start: found.start,
         length: found.size,
+        first: said.first,
+        last: said.last,
     }
 }

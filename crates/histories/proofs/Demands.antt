@@ -11,7 +11,7 @@ use denote.Ref.{now}
 use lib.Dec.{ltb}
 use lib.ListN.{length, drop}
 use Rattle.words.specs.Test.{if_then_else_}
-use Rattle.words.specs.Said.{Said, done, refused, andThen, left}
+use Rattle.words.specs.Said.{Said, done, refused, isDone, andThen, left}
 use Rattle.words.proofs.Tests.{those-few}
 use Rattle.words.proofs.Left.{left-kept, not-done}
 use Rattle.entry.specs.Plan.{planSays}
@@ -30,6 +30,7 @@ use Rattle.table.proofs.Calls.{says-well}
 use Rattle.table.proofs.Determined.{same-reply}
 use Rattle.table.proofs.Means.{Ordered, table-bytes, bytes-formed, order-at, below-next}
 use Rattle.tokens.specs.Grant.{isInTheWay, requestSays, serveSays, roomSays}
+use Rattle.tokens.specs.Widest.{withMore, Widened}
 use Rattle.tokens.specs.Ask.{inTheWay, listFor, listSays}
 use Rattle.tokens.proofs.Listed.{list-length}
 use Rattle.returns.specs.Return.{returnSays, returned}
@@ -41,12 +42,12 @@ use Rattle.desk.specs.Order.{judgedSays}
 use Rattle.desk.specs.Grant.{grantSays}
 use Rattle.desk.specs.Ask.{askSays, Asks}
 use Rattle.exchange.specs.Answer.{truthSays}
-use Rattle.histories.specs.Shape.{Shape, shape, isAnswer, ofPut, ofDrop, ofFill, ofAsk, ofAskUnjudged, ofGrant, ofGrantUnjudged, ofReturn, ofDropHost, ofAudit}
+use Rattle.histories.specs.Shape.{Shape, shape, isAnswer, ofPut, ofDrop, ofFill, ofAsk, ofAskUnjudged, ofGrant, ofGrantUnjudged, ofGrantWidest, ofGrantWidestUnjudged, ofReturn, ofDropHost, ofAudit}
 use Rattle.histories.specs.History.{RunsBy, Reached, Resumed}
 use Rattle.histories.specs.Callback.{slotAt, Item, entriesIn, Listed, Turn, givens, Returned, GivenBack, Split}
 use Rattle.histories.specs.Demands.{Ends, NoTwoConflict, Again, Served, AllDone, StillHeld, LeastThatServes, Demand1, Demand2Of, Demand2, Demand3Of, Demand3, Resuming, AskIsDone}
 use Rattle.histories.proofs.Answers.{same-value}
-use Rattle.histories.proofs.Shapes.{check-answers, read-answers, step-answers, evaluation-answers, decided-answers, access-answers, plan-put-answers, plan-drop-answers, put-answers, drop-entry-answers, fill-answers, ask-answers, ask-unjudged-answers, grant-answers, grant-unjudged-answers, return-answers, drop-answers}
+use Rattle.histories.proofs.Shapes.{check-answers, read-answers, step-answers, evaluation-answers, decided-answers, access-answers, plan-put-answers, plan-drop-answers, put-answers, drop-entry-answers, fill-answers, ask-answers, ask-unjudged-answers, grant-answers, grant-unjudged-answers, grant-widest-answers, grant-widest-unjudged-answers, return-answers, drop-answers}
 use Rattle.histories.proofs.Soundness.{Sound}
 use Rattle.histories.proofs.Spelling.{says-there, left-there}
 use Rattle.histories.proofs.Giving.{says, give, give-sound}
@@ -65,6 +66,19 @@ pub table-ends : {spoken : Said} (s : Shape) (says : Table → Said) (changed : 
     → isAnswer s (saysOf says bytes) ≡ true → after ≡ leftOf says changed bytes → Ends s spoken bytes after
 unfolding leftOf
 table-ends s says changed bytes after p a e = ends s (saysOf says bytes) (bytesOf (changed (tableOf bytes))) bytes after p a e
+
+-- a widest grant ends as its grant does
+pub widest-ends : {spoken : Said} (s : Shape) (says : Table → Said) (bytes after : List ℕ) (claim : Claim) → ((first last : ℕ) → isAnswer s (withMore (first ∷ last ∷ []) (saysOf says bytes)) ≡ true)
+    → Widened says bytes claim spoken after → Ends s spoken bytes after
+unfolding leftOf withMore isDone
+widest-ends {spoken} s says bytes after claim a w = record {
+  answers = rw (w .answer) (a (w .first) (w .last));
+  unchanged = λ f. w .table-after ∙ left-kept (saysOf says bytes) _ bytes (as-refused (saysOf says bytes) (rw (← w .answer) f));
+}
+  where
+    as-refused : (said : Said) → isDone (withMore (w .first ∷ w .last ∷ []) said) ≡ false → isDone said ≡ false
+    as-refused (done values) e = e
+    as-refused (refused number values) e = refl
 
 pub audit-answers : (truth : Bool) → isAnswer ofAudit (truthSays truth) ≡ true
 unfolding isAnswer truthSays ofAudit shape
@@ -90,6 +104,8 @@ demand1 = record {
   ask-unjudged = λ bytes out after claim r a. ends ofAskUnjudged _ _ out after (a .answer) (ask-unjudged-answers claim out bytes) (a .out-after);
   grant = λ bytes after claim access r g. table-ends ofGrant _ _ bytes after (g .answer) (grant-answers claim access bytes) (g .table-after);
   grant-unjudged = λ bytes after claim r g. table-ends ofGrantUnjudged _ _ bytes after (g .answer) (grant-unjudged-answers claim bytes) (g .table-after);
+  grant-widest = λ bytes after claim access r g. widest-ends ofGrantWidest _ bytes after claim (grant-widest-answers claim access bytes) (g .outcome);
+  grant-widest-unjudged = λ bytes after claim r g. widest-ends ofGrantWidestUnjudged _ bytes after claim (grant-widest-unjudged-answers claim bytes) (g .outcome);
   give-back = λ bytes after host number types r g. table-ends ofReturn _ _ bytes after (g .answer) (return-answers host number types bytes) (g .table-after);
   drop-host = λ bytes after host r d. table-ends ofDropHost _ _ bytes after (d .answer) (drop-answers host bytes) (d .table-after);
 }

@@ -1,8 +1,8 @@
 -- A history of exports is a history of the calls that they make; so the demands hold of them. Assumes nothing.
 use mathlib.Core.Path.{_≡_, refl, sym, _∙_, ap}
-use mathlib.Core.Bool.{Bool, true, false, not, _&&_}
+use mathlib.Core.Bool.{Bool, true, false, not, _||_, _&&_}
 use mathlib.Core.List.{List, [], _∷_, map}
-use mathlib.Core.Logic.{_≢_}
+use mathlib.Core.Logic.{_⊎_, inl, inr, _≢_}
 use Prim.Native.Nat.{ℕ, _≤_}
 use native.Mathlib.Omega.{arith}
 use borrow.Author.Tests.{eqb-true, eq-eqb, leb-true, not-true}
@@ -10,7 +10,7 @@ use lib.Dec.{eqb, leb}
 use lib.ListN.{length}
 use Rattle.words.specs.Test.{if_then_else_, anyOf, allOf}
 use Rattle.words.specs.Said.{Said, done, refused, isDone}
-use Rattle.words.proofs.Tests.{differ, and-left, and-right}
+use Rattle.words.proofs.Tests.{differ, and-left, and-right, or-one}
 use Rattle.words.proofs.Written.{number-fits}
 use Rattle.list.specs.Checking.{checkSays}
 use Rattle.table.specs.Layout.{Fits}
@@ -18,59 +18,74 @@ use Rattle.table.specs.Reply.{replySays}
 use Rattle.table.specs.Fill.{fillSays, Fills as FillsTable}
 use Rattle.table.specs.Call.{saysOf}
 use Rattle.table.specs.declared.reply.Reply.{Reply}
-use Rattle.table.specs.declared.reply.Reply.the-variants.{Done, Value}
+use Rattle.table.specs.declared.reply.Reply.the-variants.{Done, Value, Granted}
 use Rattle.returns.specs.Return.{returnSays, returned, Returns as ReturnsTypes}
 use Rattle.returns.specs.DropHost.{dropSays, Drops as DropsTable}
 use Rattle.audit.specs.Audit.{sound}
 use Rattle.access.specs.Access.{Access}
 use Rattle.access.specs.Needs.{needed}
 use Rattle.desk.specs.Grant.{grantSays, Grants as GrantsToken}
+use Rattle.desk.specs.Widest.{GrantsWidest as GrantsWidestToken}
 use Rattle.desk.specs.Ask.{askSays, Asks as AsksTable}
 use Rattle.exchange.specs.Answer.{answerFor, answerOf, truthSays}
 use Rattle.exchange.specs.Given.{claimOf, entryOf, callerOf, fileOf, guardOf}
 use Rattle.exchange.specs.declared.answer.Answer.{Answer}
 use Rattle.exchange.specs.declared.given.Claim.{Claim}
 use Rattle.mastarik.specs.Lists.{decidedFor}
-use Rattle.mastarik.specs.Tables.{Fills, Asks, Grants, Returns, DropsHost, Audits}
-use Rattle.histories.specs.Shape.{Shape, shape, isAnswer, faults, ofCheck, ofRights, ofPut, ofDrop, ofFill, ofAsk, ofGrant, ofReturn, ofDropHost, ofAudit, ofNeeds}
-use Rattle.histories.specs.History.{Leaves, RunsBy, Runs, Reached, Resumed, Gives, judged}
+use Rattle.mastarik.specs.Tables.{Fills, Asks, Grants, GrantsWidest, Returns, DropsHost, Audits}
+use Rattle.histories.specs.Shape.{Shape, shape, isAnswer, faults, ofCheck, ofRights, ofPut, ofDrop, ofFill, ofAsk, ofGrant, ofGrantWidest, ofReturn, ofDropHost, ofAudit, ofNeeds}
+use Rattle.histories.specs.History.{Leaves, RunsBy, Runs, Reached, Resumed, Gives, judged, widest}
 use Rattle.histories.specs.Callback.{TurnLeaves, Returned}
 use Rattle.histories.specs.Demands.{Ends, Again, Demand2Of, Demand3Of, NumbersOnceOf}
-use Rattle.histories.specs.Exports.{replyBy, saidBy, Typed, Export, fill, ask, grant, giveBack, dropHost, audit, ExportLeaves, ExportRuns, callOf, ReachedInC, ResumedInC, ExportsAreCalls, ResumedAreCalls, Answered, EndsInC, Demand1InC, Demand2InCOf, Demand2InC, TurnInC, TurnLeavesInC, ReturnedInC, turnOf, AgainInC, Demand3InCOf, Demand3InC, AskIsDoneInC, GivesInC, NumbersOnceInCOf, NumbersOnceInC, ResumingInC}
-use Rattle.histories.proofs.Shapes.{at-member, check-answers, decided-answers, put-answers, drop-entry-answers, fill-answers, ask-answers, grant-answers, return-answers, drop-answers}
+use Rattle.histories.specs.Exports.{replyBy, saidBy, Typed, Export, fill, ask, grant, grantWidest, giveBack, dropHost, audit, ExportLeaves, ExportRuns, callOf, ReachedInC, ResumedInC, ExportsAreCalls, ResumedAreCalls, Answered, EndsInC, Demand1InC, Demand2InCOf, Demand2InC, TurnInC, TurnLeavesInC, ReturnedInC, turnOf, AgainInC, Demand3InCOf, Demand3InC, AskIsDoneInC, GivesInC, NumbersOnceInCOf, NumbersOnceInC, ResumingInC}
+use Rattle.histories.proofs.Shapes.{at-member, check-answers, decided-answers, put-answers, drop-entry-answers, fill-answers, ask-answers, grant-answers, grant-widest-answers, return-answers, drop-answers}
 use Rattle.histories.proofs.Reaching.{numbers-once}
-use Rattle.histories.proofs.Demands.{ends, table-ends, audit-answers, demand2, demand3, ask-is-done, resuming}
+use Rattle.histories.proofs.Demands.{ends, table-ends, widest-ends, audit-answers, demand2, demand3, ask-is-done, resuming}
 
--- one value at most; no refusal's number is 0, and none goes both with a value and without
+-- one value at most, or three; no refusal's number is 0, and none goes both with a value and without
 unfoldable proper : Shape → Bool
 proper s =
-    leb (s .values) 1
+    (leb (s .values) 1 || eqb (s .values) 3)
     && (allOf (λ n. not (eqb n 0) && not (anyOf (eqb n) (s .valued))) (s .plain)
     && allOf (λ n. not (eqb n 0)) (s .valued))
 
 -- an answer leads back to what was said
 module _ (s : Shape) (p : proper s ≡ true) where
-  few : s .values ≤ 1
+  few : (s .values ≤ 1) ⊎ (s .values ≡ 3)
   unfolding proper
-  few = leb-true (s .values) 1 (and-left (leb (s .values) 1) _ p)
+  few = go (or-one (leb (s .values) 1) (eqb (s .values) 3) (and-left (leb (s .values) 1 || eqb (s .values) 3) _ p))
+    where
+      go : (leb (s .values) 1 ≡ true) ⊎ (eqb (s .values) 3 ≡ true) → (s .values ≤ 1) ⊎ (s .values ≡ 3)
+      go (inl q) = inl (leb-true (s .values) 1 q)
+      go (inr q) = inr (eqb-true (s .values) 3 q)
+
+  -- no other number of values
+  no-other : (n : ℕ) → eqb n (s .values) ≡ true → 2 ≤ n → n ≢ 3 → ⊥
+  no-other n e some other = go few
+    where
+      go : (s .values ≤ 1) ⊎ (s .values ≡ 3) → ⊥
+      go (inl q) = omega (arith, q, some, eqb-true n (s .values) e)
+      go (inr q) = other (eqb-true n (s .values) e ∙ q)
 
   plain-number : (number : ℕ) → anyOf (eqb number) (s .plain) ≡ true → (not (eqb number 0) && not (anyOf (eqb number) (s .valued))) ≡ true
   unfolding proper
   plain-number number e =
       at-member (λ n. not (eqb n 0) && not (anyOf (eqb n) (s .valued))) (s .plain)
-      (and-left (allOf (λ n. not (eqb n 0) && not (anyOf (eqb n) (s .valued))) (s .plain)) (allOf (λ n. not (eqb n 0)) (s .valued)) (and-right (leb (s .values) 1) _ p)) number e
+      (and-left (allOf (λ n. not (eqb n 0) && not (anyOf (eqb n) (s .valued))) (s .plain)) (allOf (λ n. not (eqb n 0)) (s .valued)) (and-right (leb (s .values) 1 || eqb (s .values) 3) _ p)) number e
 
   valued-number : (number : ℕ) → anyOf (eqb number) (s .valued) ≡ true → not (eqb number 0) ≡ true
   unfolding proper
   valued-number number e =
       at-member (λ n. not (eqb n 0)) (s .valued)
-      (and-right (allOf (λ n. not (eqb n 0) && not (anyOf (eqb n) (s .valued))) (s .plain)) (allOf (λ n. not (eqb n 0)) (s .valued)) (and-right (leb (s .values) 1) _ p)) number e
+      (and-right (allOf (λ n. not (eqb n 0) && not (anyOf (eqb n) (s .valued))) (s .plain)) (allOf (λ n. not (eqb n 0)) (s .valued)) (and-right (leb (s .values) 1 || eqb (s .values) 3) _ p)) number e
 
   way-back : (said : Said) → isAnswer s said ≡ true → (start size : ℕ) → saidBy s (answerFor said start size) ≡ said
   unfolding replyBy answerFor isAnswer replySays
   way-back (done []) e start size = rw (eq-eqb (s .values) 0 (sym (eqb-true 0 (s .values) e))) refl
   way-back (done (v ∷ [])) e start size = rw (← eqb-true 1 (s .values) e) refl
-  way-back (done (v ∷ w ∷ more)) e start size = absurd (omega (arith, few, eqb-true (length (v ∷ w ∷ more)) (s .values) e))
+  way-back (done (v ∷ w ∷ [])) e start size = absurd (no-other 2 e (omega arith) (λ q. omega (arith, q)))
+  way-back (done (v ∷ w ∷ x ∷ [])) e start size = rw (← eqb-true 3 (s .values) e) refl
+  way-back (done (v ∷ w ∷ x ∷ y ∷ more)) e start size = absurd (no-other (length (v ∷ w ∷ x ∷ y ∷ more)) e (omega arith) (λ q. omega (arith, q)))
   way-back (refused number []) e start size =
       let q = plain-number number e in
       rw (and-left (not (eqb number 0)) (not (anyOf (eqb number) (s .valued))) q, not-true (anyOf (eqb number) (s .valued)) (and-right (not (eqb number 0)) (not (anyOf (eqb number) (s .valued))) q)) refl
@@ -98,7 +113,7 @@ in-c s p said told d = record {
 }
 
 pub demand1-in-c : Demand1InC
-unfolding answerOf proper shape faults anyOf allOf ofCheck ofRights ofAudit ofPut ofDrop ofFill ofAsk ofGrant ofReturn ofDropHost ofNeeds isAnswer decidedFor
+unfolding answerOf proper shape faults anyOf allOf ofCheck ofRights ofAudit ofPut ofDrop ofFill ofAsk ofGrant ofGrantWidest ofReturn ofDropHost ofNeeds isAnswer decidedFor
 demand1-in-c = record {
   check = λ list a c. answered ofCheck refl (checkSays list) 0 0 (c .answer) (check-answers list);
   rights = λ list groups caller file a g. answered ofRights refl _ _ _ (g .answer) (decided-answers list groups (callerOf caller) (fileOf file) (guardOf file));
@@ -109,6 +124,7 @@ demand1-in-c = record {
   fill = λ bytes after a f. in-c ofFill refl _ (f .answer) (ends ofFill _ _ bytes after refl (fill-answers bytes) (f .table-after));
   ask = λ bytes out after claim access a q. in-c ofAsk refl _ (q .answer) (ends ofAsk _ _ out after refl (ask-answers (claimOf claim) access out bytes) (q .out-after));
   grant = λ bytes after claim access a g. in-c ofGrant refl _ (g .answer) (table-ends ofGrant _ _ bytes after refl (grant-answers (claimOf claim) access bytes) (g .table-after));
+  grant-widest = λ bytes after claim access a g. in-c ofGrantWidest refl _ (g .answer) (widest-ends ofGrantWidest _ bytes after (claimOf claim) (grant-widest-answers (claimOf claim) access bytes) (g .outcome));
   give-back = λ bytes after host number types a g. in-c ofReturn refl _ (g .answer) (table-ends ofReturn _ _ bytes after refl (return-answers host number types bytes) (g .table-after));
   drop-host = λ bytes after host a d. in-c ofDropHost refl _ (d .answer) (table-ends ofDropHost _ _ bytes after refl (drop-answers host bytes) (d .table-after));
 }
@@ -134,6 +150,12 @@ module _ {bytes after : List ℕ} {a : Answer} where
     grants-back g =
         record { answer = back ofGrant refl (saysOf (grantSays (claimOf claim) access) bytes) 0 0 (g .answer) (grant-answers (claimOf claim) access bytes); table-after = g .table-after }
 
+    grants-widest-back : GrantsWidest bytes claim access a after → GrantsWidestToken bytes (claimOf claim) access (replyBy ofGrantWidest a) after
+    unfolding answerOf proper shape faults anyOf allOf ofGrant ofGrantWidest
+    grants-widest-back g =
+        let e = back ofGrantWidest refl (g .said) 0 0 (g .answer) (rw (g .outcome .answer) (grant-widest-answers (claimOf claim) access bytes (g .outcome .first) (g .outcome .last))) in
+        record { outcome = rw e (g .outcome) }
+
     asks-back : {out : List ℕ} → Asks bytes claim access out a after → AsksTable bytes (claimOf claim) access out (replyBy ofAsk a) after
     unfolding answerOf proper shape faults anyOf allOf ofAsk
     asks-back {out} q =
@@ -156,6 +178,7 @@ unfolding ExportLeaves callOf Leaves
 leaves-back fill before after l = (replyBy ofFill (l .0), fills-back (l .1))
 leaves-back (ask claim access out) before after l = (l .0, replyBy ofAsk (l .1), l .2, asks-back (l .3))
 leaves-back (grant claim access) before after l = (fits claim (l .0), replyBy ofGrant (l .1), grants-back (l .2))
+leaves-back (grantWidest claim access) before after l = (fits claim (l .0), replyBy ofGrantWidest (l .1), grants-widest-back (l .2))
 leaves-back (giveBack given) before after l = (replyBy ofReturn (l .0), returns-back (l .1))
 leaves-back (dropHost host) before after l = (replyBy ofDropHost (l .0), drops-back (l .1))
 leaves-back audit before after l = (l .0, sound before, record { answer = refl })
@@ -175,7 +198,7 @@ turns-back : (turns : List TurnInC) (before after : List ℕ) → ReturnedInC tu
 turns-back = runs-as turnOf TurnLeavesInC TurnLeaves (λ turn before after r. returns-back r)
 
 -- an answer of 0 leads back to what is done
-zero-back : (s : Shape) (a : Answer) → a .refused ≡ 0 → replyBy s a ≡ (if eqb (s .values) 0 then Done else Value (a .value))
+zero-back : (s : Shape) (a : Answer) → a .refused ≡ 0 → replyBy s a ≡ (if eqb (s .values) 0 then Done else if eqb (s .values) 1 then Value (a .value) else Granted (a .value) (a .first) (a .last))
 unfolding replyBy
 zero-back s a e = rw e refl
 
@@ -203,8 +226,14 @@ again-back bytes claim turns present a g = record {
 }
 
 gives-back : (before : List ℕ) (number : ℕ) (after : List ℕ) → GivesInC before number after → Gives before number after
-unfolding ofGrant shape
-gives-back before number after g = judged (claimOf (g .claim)) (g .access) (fits (g .claim) (g .typed)) (rw (← g .number-is, ← zero-back ofGrant (g .answer) (g .done)) (grants-back (g .grant)))
+unfolding ofGrant ofGrantWidest shape
+gives-back before number after g = go (g .grant)
+  where
+    go : Grants before (g .claim) (g .access) (g .answer) after ⊎ GrantsWidest before (g .claim) (g .access) (g .answer) after → Gives before number after
+    go (inl p) = judged (claimOf (g .claim)) (g .access) (fits (g .claim) (g .typed)) (rw (← g .number-is, ← zero-back ofGrant (g .answer) (g .done)) (grants-back p))
+    go (inr p) =
+        widest (claimOf (g .claim)) (g .access) (g .answer .first) (g .answer .last) (fits (g .claim) (g .typed))
+        (rw (← g .number-is, ← zero-back ofGrantWidest (g .answer) (g .done)) (grants-widest-back p))
 
 -- an audit that answers 1 said yes
 yes-back : (bytes : List ℕ) (a : Answer) → Audits bytes a → a .value ≡ 1 → sound bytes ≡ true

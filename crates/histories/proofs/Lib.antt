@@ -10,6 +10,7 @@ pub mod Serving
 pub mod Reorders
 pub mod Planning
 pub mod Singles
+pub mod Widening
 pub mod Reaching
 pub mod Demands
 pub mod Longer

@@ -9,10 +9,11 @@ use native.Mathlib.Omega.{arith}
 use borrow.Author.Tests.{ne-eqb}
 use lib.ListN.{length, getD, replicate, length-replicate, List·getD-map}
 use Rattle.words.specs.Test.{if_then_else_}
-use Rattle.words.specs.Said.{Said, done, refused, andThen, left}
+use Rattle.words.specs.Said.{Said, done, refused, isDone, andThen, left}
 use Rattle.words.specs.Number.{Bytes}
 use Rattle.words.proofs.Tests.{differ, Each, none-any}
 use Rattle.words.proofs.Left.{left-whole, not-done}
+use Rattle.claims.specs.Claim.{withRange}
 use Rattle.claims.specs.declared.claim.Claim.{Claim}
 use Rattle.table.specs.Table.{Table}
 use Rattle.table.specs.Layout.{Fits, count, tableOf, bytesOf}
@@ -26,9 +27,11 @@ use Rattle.table.specs.declared.slot.Slot.{Slot}
 use Rattle.table.specs.declared.slot.Slot.the-variants.{Free, Held}
 use Rattle.table.proofs.Cuts.{sized}
 use Rattle.table.proofs.Tables.{bytes-length, bytes-table}
-use Rattle.table.proofs.Means.{ordered}
+use Rattle.table.proofs.Means.{ordered, table-bytes}
 use Rattle.table.proofs.Ordering.{fresh-order}
+use Rattle.widest.specs.Widest.{Widest}
 use Rattle.tokens.specs.Grant.{lastNumber, roomSays, requestSays, serveSays, granted, grantSays as plainSays}
+use Rattle.tokens.specs.Widest.{Widened}
 use Rattle.tokens.proofs.Kept.{passed, grant-order}
 use Rattle.returns.specs.Return.{returnSays, returned}
 use Rattle.returns.specs.DropHost.{isHosts, freed, dropSays, dropped}
@@ -38,13 +41,14 @@ use Rattle.audit.proofs.Exactly.{free-last, from-free, apart-tokens, exactly}
 use Rattle.access.specs.Access.{Access, accessSays}
 use Rattle.desk.specs.Order.{judgedSays}
 use Rattle.desk.specs.Grant.{grantSays}
-use Rattle.histories.specs.History.{Call, toFill, toAsk, toAskUnjudged, toGrant, toGrantUnjudged, toReturn, toDropHost, toAudit, isFill, Leaves, RunsBy, Runs, Reached, Resumed, Gives, judged, unjudged}
+use Rattle.histories.specs.History.{Call, toFill, toAsk, toAskUnjudged, toGrant, toGrantUnjudged, toGrantWidest, toGrantWidestUnjudged, toReturn, toDropHost, toAudit, isFill, Leaves, RunsBy, Runs, Reached, Resumed, Gives, judged, unjudged, widest, widestUnjudged}
 use Rattle.histories.specs.Callback.{slotAt}
 use Rattle.histories.specs.Demands.{NumbersOnceOf, NumbersOnce}
 use Rattle.histories.proofs.Answers.{same-value}
 use Rattle.histories.proofs.Soundness.{AllApart, Sound, Shrunk, shrunk-apart, granted-apart}
 use Rattle.histories.proofs.Spelling.{next, says-there, left-there}
 use Rattle.histories.proofs.Giving.{gave-sound}
+use Rattle.histories.proofs.Widening.{without-verdict, served, grantBy, judged-passed, it-is-widest, widening}
 
 -- bytes that a sound table spells
 pub record Stands (bytes : List ℕ) : Type 0 where
@@ -113,18 +117,22 @@ module _ (says : Table → Said) (changed : Table → Table) (t : Table) (sound 
       up (done values) = rises
       up (refused number values) = le-refl (t .next)
 
+-- the widest range is of bytes
+wide-fits : (claim : Claim) → Fits claim → {t : Table} {first last : ℕ} → Widest t claim first last → Fits (withRange claim first last)
+wide-fits claim fits w = record {
+  types = fits .types;
+  host = fits .host;
+  hi = fits .hi;
+  lo = fits .lo;
+  first = omega (arith, fits .first, w .serves .holds .0);
+  last = omega (arith, w .serves .ends);
+}
+
 module _ (claim : Claim) (fits : Fits claim) (t : Table) (sound : Sound t) where
   granting : (values : List ℕ) → plainSays claim t ≡ done values → Sound (granted claim t) × (length (granted claim t .slots) ≡ length (t .slots))
   granting values e =
       let o = grant-order claim t values e (sound .order) fits in
       (record { order = o .0; all = granted-apart t sound claim (passed claim t values e) }, o .1)
-
--- a grant that is done is done with access apart
-without-verdict : (first verdict own : Said) (values : List ℕ) → andThen first (andThen verdict own) ≡ done values → andThen first own ≡ done values
-unfolding andThen
-without-verdict (done v) (done w) own values e = e
-without-verdict (done v) (refused number w) own values e = absurd (not-done number w values e)
-without-verdict (refused number v) verdict own values e = absurd (not-done number v values e)
 
 module _ (claim : Claim) (access : Access) (t : Table) where
   as-plain : (values : List ℕ) → grantSays claim access t ≡ done values → plainSays claim t ≡ done values
@@ -172,8 +180,21 @@ dropped-rises host t = le-refl (t .next)
 as-it-was : {before after : List ℕ} → after ≡ before → (s : Stands before) → Follows (s .table .next) after
 as-it-was e s = record { stands = record { table = s .table; spelled = e ∙ s .spelled; sound = s .sound }; rises = le-refl (s .table .next) }
 
+-- a widest grant grants the claim with the range that it found
+module _ (verdict : Said) (claim : Claim) (fits : Fits claim) (t : Table) (sound : Sound t) where
+  widened-follows : {bytes after : List ℕ} {said : Said} → bytes ≡ bytesOf t → Widened (grantBy verdict claim) bytes claim said after → Follows (t .next) after
+  unfolding isDone
+  widened-follows {bytes} p w =
+      stays (grantBy verdict claim) (granted (withRange claim (w .first) (w .last))) t sound
+      (λ values e.
+      let wide : Widest t claim (w .first) (w .last) =
+      rw (p, table-bytes t (sound .order)) at (w .widest (rw (p, says-there (grantBy verdict claim) t (sound .order), e) refl)) in
+      granting (withRange claim (w .first) (w .last)) (wide-fits claim fits wide) t sound (t .next ∷ [])
+      (served t claim (judged-passed verdict claim t values e) (w .first) (w .last) (wide .serves .holds .0) (wide .serves .holds .1) (wide .serves)))
+      (granted-rises (withRange claim (w .first) (w .last)) t) p (w .table-after)
+
 call-follows : (call : Call) (before after : List ℕ) → isFill call ≡ false → Leaves call before after → (s : Stands before) → Follows (s .table .next) after
-unfolding Leaves isFill
+unfolding Leaves isFill grantSays plainSays judgedSays andThen
 call-follows toFill before after f l s = absurd (differ f)
 call-follows (toAsk claim access out) before after f l s = as-it-was (l .0) s
 call-follows (toAskUnjudged claim out) before after f l s = as-it-was (l .0) s
@@ -182,6 +203,10 @@ call-follows (toGrant claim access) before after f l s =
     (λ values e. granting claim (l .0) (s .table) (s .sound) values (as-plain claim access (s .table) values e)) (granted-rises claim (s .table)) (s .spelled) (l .2 .table-after)
 call-follows (toGrantUnjudged claim) before after f l s =
     stays (plainSays claim) (granted claim) (s .table) (s .sound) (granting claim (l .0) (s .table) (s .sound)) (granted-rises claim (s .table)) (s .spelled) (l .2 .table-after)
+call-follows (toGrantWidest claim access) before after f l s =
+    widened-follows (accessSays access (claim .types)) claim (l .0) (s .table) (s .sound) (s .spelled) (l .2 .outcome)
+call-follows (toGrantWidestUnjudged claim) before after f l s =
+    widened-follows (done []) claim (l .0) (s .table) (s .sound) (s .spelled) (l .2 .outcome)
 call-follows (toReturn g) before after f l s =
     stays (returnSays (g .host) (g .number) (g .types)) (returned (g .host) (g .number) (g .types)) (s .table) (s .sound)
     (λ values e. (gave-sound g (s .table) (s .sound) values e, return-order (s .table) (s .sound .order) (g .host) (g .number) (g .types) .1))
@@ -210,6 +235,8 @@ call-stands (toAsk claim access out) before after l s = call-follows (toAsk clai
 call-stands (toAskUnjudged claim out) before after l s = call-follows (toAskUnjudged claim out) before after refl l s .stands
 call-stands (toGrant claim access) before after l s = call-follows (toGrant claim access) before after refl l s .stands
 call-stands (toGrantUnjudged claim) before after l s = call-follows (toGrantUnjudged claim) before after refl l s .stands
+call-stands (toGrantWidest claim access) before after l s = call-follows (toGrantWidest claim access) before after refl l s .stands
+call-stands (toGrantWidestUnjudged claim) before after l s = call-follows (toGrantWidestUnjudged claim) before after refl l s .stands
 call-stands (toReturn g) before after l s = call-follows (toReturn g) before after refl l s .stands
 call-stands (toDropHost host) before after l s = call-follows (toDropHost host) before after refl l s .stands
 call-stands toAudit before after l s = call-follows toAudit before after refl l s .stands
@@ -270,11 +297,21 @@ module _ (claim : Claim) (fits : Fits claim) (t : Table) (sound : Sound t) (numb
       (n, record { stands = record { table = granted claim t; spelled = spelled; sound = o .0 }; rises = omega (arith, granted-next claim t) })
 
 gives-follows : (bytes : List ℕ) (s : Stands bytes) (number : ℕ) (after : List ℕ) → Gives bytes number after → (number ≡ s .table .next) × Follows (number + 1) after
-unfolding replySays
+unfolding replySays grantSays plainSays judgedSays andThen
 gives-follows bytes s number after (judged claim access fits g) =
     given-follows claim fits (s .table) (s .sound) number (grantSays claim access) (as-plain claim access (s .table) (number ∷ [])) bytes after (s .spelled) (g .answer) (g .table-after)
 gives-follows bytes s number after (unjudged claim fits g) =
     given-follows claim fits (s .table) (s .sound) number (plainSays claim) (λ e. e) bytes after (s .spelled) (g .answer) (g .table-after)
+gives-follows bytes s number after (widest claim access first last fits g) =
+    let wide = withRange claim first last in
+    let h = widening .as-grant bytes after claim access number first last g in
+    given-follows wide (wide-fits claim fits (it-is-widest (accessSays access (claim .types)) claim bytes after number first last (g .outcome))) (s .table) (s .sound) number
+    (grantSays wide access) (as-plain wide access (s .table) (number ∷ [])) bytes after (s .spelled) (h .answer) (h .table-after)
+gives-follows bytes s number after (widestUnjudged claim first last fits g) =
+    let wide = withRange claim first last in
+    let h = widening .as-grant-unjudged bytes after claim number first last g in
+    given-follows wide (wide-fits claim fits (it-is-widest (done []) claim bytes after number first last (g .outcome))) (s .table) (s .sound) number
+    (plainSays wide) (λ e. e) bytes after (s .spelled) (h .answer) (h .table-after)
 
 -- wherever the bytes stand
 pub numbers-rise : (reached : List ℕ → Type 0) → ((bytes : List ℕ) → reached bytes → Stands bytes) → NumbersOnceOf reached

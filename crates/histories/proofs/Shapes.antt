@@ -3,6 +3,7 @@ use mathlib.Core.Path.{_≡_, refl, sym}
 use mathlib.Core.Bool.{Bool, true, false, cond, not, _&&_}
 use mathlib.Core.List.{List, [], _∷_}
 use Prim.Native.Nat.{ℕ}
+use native.Mathlib.Omega.{arith}
 use borrow.Author.Tests.{eqb-true}
 use lib.Bits.{bitAnd}
 use lib.Dec.{eqb, ltb, leb}
@@ -44,6 +45,7 @@ use Rattle.table.specs.Form.{isLength, wellFormed}
 use Rattle.table.specs.Fill.{fillSays}
 use Rattle.table.specs.Call.{saysOf}
 use Rattle.tokens.specs.Grant.{isFree, isInTheWay, lastNumber, roomSays, requestSays, serveSays, grantSays as plainGrantSays}
+use Rattle.tokens.specs.Widest.{withMore}
 use Rattle.tokens.specs.Ask.{inTheWay, listFor, listSays, askSays as plainAskSays}
 use Rattle.returns.specs.Return.{isOf, typesIn, tokenIn, returnSays}
 use Rattle.returns.specs.DropHost.{dropSays}
@@ -52,7 +54,7 @@ use Rattle.access.specs.Needs.{needed}
 use Rattle.desk.specs.Order.{judgedSays}
 use Rattle.desk.specs.Grant.{grantSays}
 use Rattle.desk.specs.Ask.{askSays}
-use Rattle.histories.specs.Shape.{Shape, shape, isAnswer, isAnswerOrEnd, faults, ofRead, ofStep, ofCheck, ofEvaluate, ofRights, ofJudge, ofPlanPut, ofPlanDrop, ofPut, ofDrop, ofFill, ofAsk, ofAskUnjudged, ofGrant, ofGrantUnjudged, ofReturn, ofDropHost}
+use Rattle.histories.specs.Shape.{Shape, shape, isAnswer, isAnswerOrEnd, faults, ofRead, ofStep, ofCheck, ofEvaluate, ofRights, ofJudge, ofPlanPut, ofPlanDrop, ofPut, ofDrop, ofFill, ofAsk, ofAskUnjudged, ofGrant, ofGrantUnjudged, ofGrantWidest, ofGrantWidestUnjudged, ofReturn, ofDropHost}
 
 -- what is said, if it is refused, is a refusal of the shape
 unfoldable refuses : Shape → Said → Bool
@@ -336,6 +338,29 @@ unfolding grantSays within isAnswer ofJudge ofGrant ofGrantUnjudged shape faults
 grant-answers claim access bytes =
     of-bytes ofGrant (grantSays claim access) bytes refl
     (λ t. judged-answers ofGrant refl refl claim access (serveSays claim) t (wider-answer ofGrantUnjudged ofGrant refl refl (serveSays claim t) (serve-answers claim t)))
+
+-- with two values more
+more-answers : (a b : Shape) → a .values ≡ 1 → b .values ≡ 3 → a .plain ≡ b .plain → a .valued ≡ b .valued → (m n : ℕ) (said : Said) → isAnswer a said ≡ true
+    → isAnswer b (withMore (m ∷ n ∷ []) said) ≡ true
+unfolding withMore isAnswer
+more-answers a b v w p q m n (done []) e = absurd (omega (arith, v, eqb-true 0 (a .values) e))
+more-answers a b v w p q m n (done (x ∷ [])) e = rw w refl
+more-answers a b v w p q m n (done (x ∷ y ∷ more)) e = absurd (omega (arith, v, eqb-true (length (x ∷ y ∷ more)) (a .values) e))
+more-answers a b v w p q m n (refused number []) e = rw (← p) e
+more-answers a b v w p q m n (refused number (value ∷ [])) e = rw (← q) e
+more-answers a b v w p q m n (refused number (value ∷ other ∷ more)) e = e
+
+pub grant-widest-answers : (claim : Claim) (access : Access) (bytes : List ℕ) (first last : ℕ)
+    → isAnswer ofGrantWidest (withMore (first ∷ last ∷ []) (saysOf (grantSays claim access) bytes)) ≡ true
+unfolding ofGrant ofGrantWidest shape
+grant-widest-answers claim access bytes first last =
+    more-answers ofGrant ofGrantWidest refl refl refl refl first last (saysOf (grantSays claim access) bytes) (grant-answers claim access bytes)
+
+pub grant-widest-unjudged-answers : (claim : Claim) (bytes : List ℕ) (first last : ℕ)
+    → isAnswer ofGrantWidestUnjudged (withMore (first ∷ last ∷ []) (saysOf (plainGrantSays claim) bytes)) ≡ true
+unfolding ofGrantUnjudged ofGrantWidestUnjudged shape
+grant-widest-unjudged-answers claim bytes first last =
+    more-answers ofGrantUnjudged ofGrantWidestUnjudged refl refl refl refl first last (saysOf (plainGrantSays claim) bytes) (grant-unjudged-answers claim bytes)
 
 pub ask-answers : (claim : Claim) (access : Access) (out bytes : List ℕ) → isAnswer ofAsk (saysOf (askSays claim access out) bytes) ≡ true
 unfolding askSays within isAnswer ofJudge ofAsk ofAskUnjudged shape faults anyOf allOf

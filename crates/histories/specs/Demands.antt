@@ -39,15 +39,17 @@ use Rattle.table.specs.declared.reply.Reply.{Reply}
 use Rattle.table.specs.declared.reply.Reply.the-variants.{Done, Value}
 use Rattle.table.specs.declared.slot.Slot.the-variants.{Held}
 use Rattle.tokens.specs.Grant.{roomSays, Grants as GrantsUnjudged}
+use Rattle.tokens.specs.Widest.{GrantsWidest as GrantsWidestUnjudged}
 use Rattle.tokens.specs.Ask.{Asks as AsksUnjudged}
 use Rattle.returns.specs.Return.{Returns}
 use Rattle.returns.specs.DropHost.{Drops}
 use Rattle.audit.specs.Audit.{Audits}
 use Rattle.access.specs.Access.{Access, accessSays, Judges}
 use Rattle.desk.specs.Grant.{Grants}
+use Rattle.desk.specs.Widest.{GrantsWidest}
 use Rattle.desk.specs.Ask.{Asks}
 use Rattle.exchange.specs.Answer.{truthSays}
-use Rattle.histories.specs.Shape.{Shape, isAnswer, isAnswerOrEnd, ofRead, ofStep, ofCheck, ofEvaluate, ofRights, ofJudge, ofPlanPut, ofPlanDrop, ofPut, ofDrop, ofFill, ofAsk, ofAskUnjudged, ofGrant, ofGrantUnjudged, ofReturn, ofDropHost, ofAudit}
+use Rattle.histories.specs.Shape.{Shape, isAnswer, isAnswerOrEnd, ofRead, ofStep, ofCheck, ofEvaluate, ofRights, ofJudge, ofPlanPut, ofPlanDrop, ofPut, ofDrop, ofFill, ofAsk, ofAskUnjudged, ofGrant, ofGrantUnjudged, ofGrantWidest, ofGrantWidestUnjudged, ofReturn, ofDropHost, ofAudit}
 use Rattle.histories.specs.History.{Call, isFill, Runs, Reached, Resumed, Gives}
 use Rattle.histories.specs.Callback.{slotAt, Item, Holds, Entry, entriesIn, Listed, Turn, givens, Returned, GivenBack, returnOf, Reordered, Split, returnOne, Singly}
 
@@ -78,6 +80,9 @@ pub record Demand1 : Type 0 where
   pub ask-unjudged : (bytes out after : List ℕ) (claim : Claim) (r : Reply) → AsksUnjudged bytes claim out r after → Ends ofAskUnjudged (replySays r) out after
   pub grant : (bytes after : List ℕ) (claim : Claim) (access : Access) (r : Reply) → Grants bytes claim access r after → Ends ofGrant (replySays r) bytes after
   pub grant-unjudged : (bytes after : List ℕ) (claim : Claim) (r : Reply) → GrantsUnjudged bytes claim r after → Ends ofGrantUnjudged (replySays r) bytes after
+  pub grant-widest : (bytes after : List ℕ) (claim : Claim) (access : Access) (r : Reply) → GrantsWidest bytes claim access r after → Ends ofGrantWidest (replySays r) bytes after
+  pub grant-widest-unjudged : (bytes after : List ℕ) (claim : Claim) (r : Reply) → GrantsWidestUnjudged bytes claim r after
+      → Ends ofGrantWidestUnjudged (replySays r) bytes after
   pub give-back : (bytes after : List ℕ) (host number types : ℕ) (r : Reply) → Returns bytes host number types r after → Ends ofReturn (replySays r) bytes after
   pub drop-host : (bytes after : List ℕ) (host : ℕ) (r : Reply) → Drops bytes host r after → Ends ofDropHost (replySays r) bytes after
 

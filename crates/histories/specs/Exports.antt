@@ -2,7 +2,7 @@
 use mathlib.Core.Path.{_≡_}
 use mathlib.Core.Bool.{true, false, not}
 use mathlib.Core.List.{List, [], map}
-use mathlib.Core.Logic.{_≢_}
+use mathlib.Core.Logic.{_⊎_, _≢_}
 use Prim.Native.Nat.{ℕ, _*_, _^_, _≤_, _<_}
 use lib.Dec.{eqb}
 use lib.ListN.{length}
@@ -15,7 +15,7 @@ use Rattle.table.specs.Layout.{tableOf}
 use Rattle.table.specs.Form.{wellFormed}
 use Rattle.table.specs.Reply.{replySays}
 use Rattle.table.specs.declared.reply.Reply.{Reply}
-use Rattle.table.specs.declared.reply.Reply.the-variants.{Done, Value, Refused, RefusedWith}
+use Rattle.table.specs.declared.reply.Reply.the-variants.{Done, Value, Granted, Refused, RefusedWith}
 use Rattle.access.specs.Access.{Access, accessSays}
 use Rattle.exchange.specs.Answer.{answerFor}
 use Rattle.exchange.specs.Given.{claimOf}
@@ -25,10 +25,10 @@ use Rattle.exchange.specs.declared.given.Claim.{Claim}
 use Rattle.exchange.specs.declared.given.Entry.{Entry}
 use Rattle.exchange.specs.declared.given.File.{File}
 use Rattle.mastarik.specs.Lists.{Checks, decidedFor, GivesRights, Puts, Drops}
-use Rattle.mastarik.specs.Tables.{Fills, Asks, Grants, Returns, DropsHost, Audits}
+use Rattle.mastarik.specs.Tables.{Fills, Asks, Grants, GrantsWidest, Returns, DropsHost, Audits}
 use Rattle.mastarik.specs.Types.{TellsNeeds}
-use Rattle.histories.specs.Shape.{Shape, isAnswer, ofCheck, ofRights, ofPut, ofDrop, ofFill, ofAsk, ofGrant, ofReturn, ofDropHost, ofAudit, ofNeeds}
-use Rattle.histories.specs.History.{Return, Call, toFill, toAsk, toGrant, toReturn, toDropHost, toAudit, isFill, RunsBy, Reached, Resumed}
+use Rattle.histories.specs.Shape.{Shape, isAnswer, ofCheck, ofRights, ofPut, ofDrop, ofFill, ofAsk, ofGrant, ofGrantWidest, ofReturn, ofDropHost, ofAudit, ofNeeds}
+use Rattle.histories.specs.History.{Return, Call, toFill, toAsk, toGrant, toGrantWidest, toReturn, toDropHost, toAudit, isFill, RunsBy, Reached, Resumed}
 use Rattle.histories.specs.Callback.{entriesIn, Turn}
 use Rattle.histories.specs.Demands.{NoTwoConflict, LeastThatServes}
 
@@ -37,7 +37,8 @@ unfoldable pub replyBy : Shape → Answer → Reply
 replyBy s a =
     if not (eqb (a .refused) 0) then (if anyOf (eqb (a .refused)) (s .valued) then RefusedWith (a .refused) (a .detail) else Refused (a .refused)) else
     if eqb (s .values) 0 then Done else
-    Value (a .value)
+    if eqb (s .values) 1 then Value (a .value) else
+    Granted (a .value) (a .first) (a .last)
 
 abbrev pub saidBy : Shape → Answer → Said
 saidBy s a = replySays (replyBy s a)
@@ -56,6 +57,7 @@ pub data Export : Type 0 where
   fill : Export
   ask : Claim → Access → List ℕ → Export
   grant : Claim → Access → Export
+  grantWidest : Claim → Access → Export
   giveBack : Return → Export
   dropHost : ℕ → Export
   audit : Export
@@ -65,6 +67,7 @@ unfoldable pub ExportLeaves : Export → List ℕ → List ℕ → Type 0
 ExportLeaves fill before after = (a : Answer) × Fills before a after
 ExportLeaves (ask claim access out) before after = (after ≡ before) × (a : Answer) × (written : List ℕ) × Asks before claim access out a written
 ExportLeaves (grant claim access) before after = Typed claim × (a : Answer) × Grants before claim access a after
+ExportLeaves (grantWidest claim access) before after = Typed claim × (a : Answer) × GrantsWidest before claim access a after
 ExportLeaves (giveBack given) before after = (a : Answer) × Returns before (given .host) (given .number) (given .types) a after
 ExportLeaves (dropHost host) before after = (a : Answer) × DropsHost before host a after
 ExportLeaves audit before after = (after ≡ before) × (a : Answer) × Audits before a
@@ -97,6 +100,7 @@ unfoldable pub callOf : Export → Call
 callOf fill = toFill
 callOf (ask claim access out) = toAsk (claimOf claim) access out
 callOf (grant claim access) = toGrant (claimOf claim) access
+callOf (grantWidest claim access) = toGrantWidest (claimOf claim) access
 callOf (giveBack given) = toReturn given
 callOf (dropHost host) = toDropHost host
 callOf audit = toAudit
@@ -108,7 +112,8 @@ ExportsAreCalls = (bytes : List ℕ) → ReachedInC bytes → Reached bytes
 abbrev pub ResumedAreCalls : Type 0
 ResumedAreCalls = (bytes : List ℕ) → ResumedInC bytes → Resumed bytes
 
--- 0 and its value, or a refusal that this call can give and its detail; beside them the deciding record, and what is not used is 0
+-- 0 and its value, with the range that was given, or a refusal that this call can give and its detail; beside them the deciding record, and
+-- what is not used is 0
 pub record Answered (s : Shape) (start size : ℕ) (a : Answer) : Type 0 where
   pub answers : isAnswer s (saidBy s a) ≡ true
   pub fields : a ≡ answerFor (saidBy s a) start size
@@ -130,6 +135,7 @@ pub record Demand1InC : Type 0 where
   pub fill : (bytes after : List ℕ) (a : Answer) → Fills bytes a after → EndsInC ofFill a bytes after
   pub ask : (bytes out after : List ℕ) (claim : Claim) (access : Access) (a : Answer) → Asks bytes claim access out a after → EndsInC ofAsk a out after
   pub grant : (bytes after : List ℕ) (claim : Claim) (access : Access) (a : Answer) → Grants bytes claim access a after → EndsInC ofGrant a bytes after
+  pub grant-widest : (bytes after : List ℕ) (claim : Claim) (access : Access) (a : Answer) → GrantsWidest bytes claim access a after → EndsInC ofGrantWidest a bytes after
   pub give-back : (bytes after : List ℕ) (host number types : ℕ) (a : Answer) → Returns bytes host number types a after → EndsInC ofReturn a bytes after
   pub drop-host : (bytes after : List ℕ) (host : ℕ) (a : Answer) → DropsHost bytes host a after → EndsInC ofDropHost a bytes after
 
@@ -179,13 +185,13 @@ AskIsDoneInC = (bytes : List ℕ) → wellFormed bytes ≡ true → (claim : Cla
     → (access : Access) → accessSays access (claim .types) ≡ done [] → (out : List ℕ) → 13 * length (tableOf bytes .slots) ≤ length out
     → (a : Answer) (after : List ℕ) → Asks bytes claim access out a after → a .refused ≡ 0
 
--- a grant that answers 0, and the number that it gives
+-- a grant that answers 0, with the asked range or the widest, and the number that it gives
 pub record GivesInC (before : List ℕ) (number : ℕ) (after : List ℕ) : Type 0 where
   pub claim : Claim
   pub access : Access
   pub typed : Typed claim
   pub answer : Answer
-  pub grant : Grants before claim access answer after
+  pub grant : Grants before claim access answer after ⊎ GrantsWidest before claim access answer after
   pub done : answer .refused ≡ 0
   pub number-is : answer .value ≡ number
 

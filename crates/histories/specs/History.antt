@@ -8,14 +8,16 @@ use Rattle.claims.specs.declared.claim.Claim.{Claim}
 use Rattle.table.specs.Layout.{Fits}
 use Rattle.table.specs.Fill.{Fills}
 use Rattle.table.specs.declared.reply.Reply.{Reply}
-use Rattle.table.specs.declared.reply.Reply.the-variants.{Done, Value}
+use Rattle.table.specs.declared.reply.Reply.the-variants.{Done, Value, Granted}
 use Rattle.tokens.specs.Grant.{Grants as GrantsUnjudged}
+use Rattle.tokens.specs.Widest.{GrantsWidest as GrantsWidestUnjudged}
 use Rattle.tokens.specs.Ask.{Asks as AsksUnjudged}
 use Rattle.returns.specs.Return.{Returns}
 use Rattle.returns.specs.DropHost.{Drops}
 use Rattle.audit.specs.Audit.{Audits}
 use Rattle.access.specs.Access.{Access}
 use Rattle.desk.specs.Grant.{Grants}
+use Rattle.desk.specs.Widest.{GrantsWidest}
 use Rattle.desk.specs.Ask.{Asks}
 
 -- what a return is given besides the table
@@ -31,6 +33,8 @@ pub data Call : Type 0 where
   toAskUnjudged : Claim → List ℕ → Call
   toGrant : Claim → Access → Call
   toGrantUnjudged : Claim → Call
+  toGrantWidest : Claim → Access → Call
+  toGrantWidestUnjudged : Claim → Call
   toReturn : Return → Call
   toDropHost : ℕ → Call
   toAudit : Call
@@ -41,6 +45,8 @@ isFill (toAsk claim access out) = false
 isFill (toAskUnjudged claim out) = false
 isFill (toGrant claim access) = false
 isFill (toGrantUnjudged claim) = false
+isFill (toGrantWidest claim access) = false
+isFill (toGrantWidestUnjudged claim) = false
 isFill (toReturn given) = false
 isFill (toDropHost host) = false
 isFill toAudit = false
@@ -52,6 +58,8 @@ Leaves (toAsk claim access out) before after = (after ≡ before) × (r : Reply)
 Leaves (toAskUnjudged claim out) before after = (after ≡ before) × (r : Reply) × (written : List ℕ) × AsksUnjudged before claim out r written
 Leaves (toGrant claim access) before after = Fits claim × (r : Reply) × Grants before claim access r after
 Leaves (toGrantUnjudged claim) before after = Fits claim × (r : Reply) × GrantsUnjudged before claim r after
+Leaves (toGrantWidest claim access) before after = Fits claim × (r : Reply) × GrantsWidest before claim access r after
+Leaves (toGrantWidestUnjudged claim) before after = Fits claim × (r : Reply) × GrantsWidestUnjudged before claim r after
 Leaves (toReturn given) before after = (r : Reply) × Returns before (given .host) (given .number) (given .types) r after
 Leaves (toDropHost host) before after = (r : Reply) × Drops before host r after
 Leaves toAudit before after = (after ≡ before) × (r : Bool) × Audits before r
@@ -86,3 +94,5 @@ pub record Resumed (bytes : List ℕ) : Type 0 where
 pub data Gives (before : List ℕ) (number : ℕ) (after : List ℕ) : Type 0 where
   judged : (claim : Claim) (access : Access) → Fits claim → Grants before claim access (Value number) after → Gives before number after
   unjudged : (claim : Claim) → Fits claim → GrantsUnjudged before claim (Value number) after → Gives before number after
+  widest : (claim : Claim) (access : Access) (first last : ℕ) → Fits claim → GrantsWidest before claim access (Granted number first last) after → Gives before number after
+  widestUnjudged : (claim : Claim) (first last : ℕ) → Fits claim → GrantsWidestUnjudged before claim (Granted number first last) after → Gives before number after

@@ -65,7 +65,7 @@ ofPut = shape 1 (21 ∷ []) faults
 unfoldable pub ofDrop : Shape
 ofDrop = shape 1 (20 ∷ 21 ∷ []) faults
 
--- the calls on a table; ask and grant also with access apart
+-- the calls on a table; ask and the grants also with access apart; the widest grant has three values, a number and the range's two ends
 unfoldable pub ofFill : Shape
 ofFill = shape 0 (30 ∷ []) []
 
@@ -80,6 +80,12 @@ ofGrant = shape 1 (30 ∷ 31 ∷ 23 ∷ 22 ∷ 24 ∷ 32 ∷ 33 ∷ 34 ∷ []) f
 
 unfoldable pub ofGrantUnjudged : Shape
 ofGrantUnjudged = shape 1 (30 ∷ 31 ∷ 32 ∷ 33 ∷ 34 ∷ []) []
+
+unfoldable pub ofGrantWidest : Shape
+ofGrantWidest = shape 3 (ofGrant .plain) (ofGrant .valued)
+
+unfoldable pub ofGrantWidestUnjudged : Shape
+ofGrantWidestUnjudged = shape 3 (ofGrantUnjudged .plain) (ofGrantUnjudged .valued)
 
 unfoldable pub ofReturn : Shape
 ofReturn = shape 0 (30 ∷ 31 ∷ 36 ∷ 37 ∷ []) []

@@ -25,6 +25,7 @@ use Rattle.audit.specs.Audit.{Audits as AuditsTable}
 use Rattle.access.specs.Access.{accessOf}
 use Rattle.access.specs.Needs.{Needs}
 use Rattle.desk.specs.Grant.{Grants as GrantsToken}
+use Rattle.desk.specs.Widest.{GrantsWidest as GrantsWidestToken}
 use Rattle.desk.specs.Ask.{Asks as AsksTable}
 use Rattle.exchange.specs.Meaning.{Means}
 use Rattle.exchange.specs.Answer.{answerFor, answerOf, truthSays}
@@ -35,7 +36,7 @@ use Rattle.exchange.specs.declared.given.Claim.{Claim}
 use Rattle.exchange.specs.declared.given.Entry.{Entry}
 use Rattle.exchange.specs.declared.given.File.{File}
 use Rattle.mastarik.specs.Lists.{Checks, decidedFor, GivesRights, Puts, Drops}
-use Rattle.mastarik.specs.Tables.{accessFor, Fills, Asks, Grants, Returns, DropsHost, Audits}
+use Rattle.mastarik.specs.Tables.{accessFor, Fills, Asks, Grants, GrantsWidest, Returns, DropsHost, Audits}
 use Rattle.mastarik.specs.Types.{TellsNeeds}
 
 -- what was said is what the statement says
@@ -101,3 +102,9 @@ module _ {list groups : List ℕ} (caller : Caller) (file : File) {who : TheCall
         where
           go : GrantsToken bytes (claimOf claim) (accessFor list groups caller file) reply after → Grants bytes claim (accessFor list groups caller file) r after
           go q = record { answer = told said (q .answer); table-after = q .table-after }
+
+      pub grants-widest : GrantsWidestToken bytes t (accessOf list groups who what guard) reply after → GrantsWidest bytes claim (accessFor list groups caller file) r after
+      grants-widest p = go (subst (λ x. GrantsWidestToken bytes x (accessFor list groups caller file) reply after) (given .answer) (subst (λ x. GrantsWidestToken bytes t x reply after) judged-by p))
+        where
+          go : GrantsWidestToken bytes (claimOf claim) (accessFor list groups caller file) reply after → GrantsWidest bytes claim (accessFor list groups caller file) r after
+          go q = record { said = replySays reply; answer = said .answer; outcome = q .outcome }

@@ -1,12 +1,16 @@
 -- Two outcomes that meet a statement are equal. Assumes nothing.
-use mathlib.Core.Path.{_≡_, sym, _∙_}
+use mathlib.Core.Path.{_≡_, sym, _∙_, ap}
 use mathlib.Core.List.{List}
 use Prim.Native.Nat.{ℕ}
+use Rattle.tokens.proofs.Determined.{widened-determined}
 use Rattle.access.specs.Access.{Access}
+use Rattle.desk.specs.Grant.{grantSays}
 use Rattle.mastarik.specs.Lists.{Checks, GivesRights, Puts, Drops}
-use Rattle.mastarik.specs.Tables.{Fills, Asks, Grants, Returns, DropsHost, Audits}
+use Rattle.mastarik.specs.Tables.{Fills, Asks, Grants, GrantsWidest, Returns, DropsHost, Audits}
 use Rattle.mastarik.specs.Types.{TellsNeeds}
 use Rattle.mastarik.specs.Version.{TellsVersion}
+use Rattle.exchange.specs.Answer.{answerOf}
+use Rattle.exchange.specs.Given.{claimOf}
 use Rattle.exchange.specs.declared.answer.Answer.{Answer}
 use Rattle.exchange.specs.declared.given.Caller.{Caller}
 use Rattle.exchange.specs.declared.given.Claim.{Claim}
@@ -43,6 +47,12 @@ module _ (r r′ : Answer) where
 
       pub grant-determined : (claim : Claim) (access : Access) → Grants bytes claim access r after → Grants bytes claim access r′ after′ → (r ≡ r′) × (after ≡ after′)
       grant-determined claim access p q = (p .answer ∙ sym (q .answer), p .table-after ∙ sym (q .table-after))
+
+      pub grant-widest-determined : (claim : Claim) (access : Access) → GrantsWidest bytes claim access r after → GrantsWidest bytes claim access r′ after′
+          → (r ≡ r′) × (after ≡ after′)
+      grant-widest-determined claim access p q =
+          let w = widened-determined (grantSays (claimOf claim) access) bytes (claimOf claim) (p .said) (q .said) after after′ (p .outcome) (q .outcome) in
+          (p .answer ∙ ap answerOf (w .0) ∙ sym (q .answer), w .1)
 
       pub return-determined : (host number types : ℕ) → Returns bytes host number types r after → Returns bytes host number types r′ after′ → (r ≡ r′) × (after ≡ after′)
       return-determined host number types p q = (p .answer ∙ sym (q .answer), p .table-after ∙ sym (q .table-after))

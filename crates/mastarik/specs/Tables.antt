@@ -2,11 +2,12 @@
 use mathlib.Core.Path.{_≡_}
 use mathlib.Core.List.{List}
 use Prim.Native.Nat.{ℕ}
-use Rattle.words.specs.Said.{left}
+use Rattle.words.specs.Said.{Said, left}
 use Rattle.table.specs.Layout.{tableOf, bytesOf, count}
 use Rattle.table.specs.Fill.{filled, fillSays}
 use Rattle.table.specs.Call.{saysOf, leftOf}
 use Rattle.tokens.specs.Grant.{granted}
+use Rattle.tokens.specs.Widest.{Widened}
 use Rattle.tokens.specs.Ask.{listFor}
 use Rattle.returns.specs.Return.{returnSays, returned}
 use Rattle.returns.specs.DropHost.{dropSays, dropped}
@@ -21,7 +22,7 @@ use Rattle.exchange.specs.declared.given.Caller.{Caller}
 use Rattle.exchange.specs.declared.given.Claim.{Claim}
 use Rattle.exchange.specs.declared.given.File.{File}
 
--- what ask and grant are judged by
+-- what ask and the grants are judged by
 unfoldable pub accessFor : List ℕ → List ℕ → Caller → File → Access
 accessFor list groups caller file = accessOf list groups (callerOf caller) (fileOf file) (guardOf file)
 
@@ -39,6 +40,12 @@ pub record Asks (bytes : List ℕ) (claim : Claim) (access : Access) (out : List
 pub record Grants (bytes : List ℕ) (claim : Claim) (access : Access) (r : Answer) (after : List ℕ) : Type 0 where
   pub answer : r ≡ answerOf (saysOf (grantSays (claimOf claim) access) bytes)
   pub table-after : after ≡ leftOf (grantSays (claimOf claim) access) (granted (claimOf claim)) bytes
+
+-- granting a token with the widest range
+pub record GrantsWidest (bytes : List ℕ) (claim : Claim) (access : Access) (r : Answer) (after : List ℕ) : Type 0 where
+  pub said : Said
+  pub answer : r ≡ answerOf said
+  pub outcome : Widened (grantSays (claimOf claim) access) bytes (claimOf claim) said after
 
 -- returning types of a token
 pub record Returns (bytes : List ℕ) (host number types : ℕ) (r : Answer) (after : List ℕ) : Type 0 where

@@ -13,6 +13,7 @@ pub use tables::mastarik_audit;
 pub use tables::mastarik_drop_host;
 pub use tables::mastarik_fill;
 pub use tables::mastarik_grant;
+pub use tables::mastarik_grant_widest;
 pub use tables::mastarik_return;
 pub use types::mastarik_needs;
 pub use version::mastarik_version;

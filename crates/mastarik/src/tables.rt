@@ -9,7 +9,7 @@ use exchange::file_of;
 use exchange::guard_of;
 use exchange::of_reply;
 use exchange::of_truth;
-ghost use Rattle.mastarik.specs.Tables.{accessFor, Fills, Asks, Grants, Returns, DropsHost, Audits};
+ghost use Rattle.mastarik.specs.Tables.{accessFor, Fills, Asks, Grants, GrantsWidest, Returns, DropsHost, Audits};
 
 #[no_mangle]
 pub extern "C" fn mastarik_fill(table: &mut [u8]) -> Answer
@@ -53,6 +53,24 @@ pub extern "C" fn mastarik_grant(
     let what = file_of(file);
     let guard = guard_of(file);
     of_reply(desk::grant(table, asked, list, groups, who, what, guard))
+}
+
+#[no_mangle]
+pub extern "C" fn mastarik_grant_widest(
+    table: &mut [u8],
+    claim: Claim,
+    list: &[u8],
+    groups: &[u32],
+    caller: Caller,
+    file: File,
+) -> Answer
+    ensures { λ r. ⌜ GrantsWidest (now (table .entry)) claim (accessFor (now (list .entry)) (now (groups .entry)) caller file) r (now (table .exit)) ⌝ }
+{
+    let asked = claim_of(claim);
+    let who = caller_of(caller);
+    let what = file_of(file);
+    let guard = guard_of(file);
+    of_reply(desk::grant_widest(table, asked, list, groups, who, what, guard))
 }
 
 #[no_mangle]

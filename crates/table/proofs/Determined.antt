@@ -12,14 +12,15 @@ use Rattle.table.specs.Layout.{slotOf, slotSays, ReadsSlot}
 use Rattle.table.specs.Form.{TellsLength, TellsOpening, TellsSlot, TellsForm}
 use Rattle.table.specs.Reply.{replySays}
 use Rattle.table.specs.declared.reply.Reply.{Reply}
-use Rattle.table.specs.declared.reply.Reply.the-variants.{Done, Value, Refused, RefusedWith}
+use Rattle.table.specs.declared.reply.Reply.the-variants.{Done, Value, Granted, Refused, RefusedWith}
 use Rattle.table.specs.declared.slot.Slot.{Slot}
 use Rattle.table.specs.declared.slot.Slot.the-variants.{Free, Held}
 
 -- a reply by what it says
 unfoldable replyOf : Said → Reply
 replyOf (done []) = Done
-replyOf (done (n ∷ more)) = Value n
+replyOf (done (n ∷ [])) = Value n
+replyOf (done (n ∷ first ∷ more)) = Granted n first (getD more 0 0)
 replyOf (refused number []) = Refused number
 replyOf (refused number (value ∷ more)) = RefusedWith number value
 
@@ -27,6 +28,7 @@ reply-back : (r : Reply) → replyOf (replySays r) ≡ r
 unfolding replyOf replySays
 reply-back Done = refl
 reply-back (Value n) = refl
+reply-back (Granted number first last) = refl
 reply-back (Refused number) = refl
 reply-back (RefusedWith number value) = refl
 

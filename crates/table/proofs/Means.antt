@@ -152,16 +152,21 @@ ordered bytes h e =
       slots = slots-ordered (limit (tableOf bytes)) (nextIn bytes) (slotsIn bytes) (form-slots bytes e) (cut-bytes (count bytes) (drop width bytes) (drop-bytes width bytes h));
     }
 
--- any of its slots is in order; a token in order has few types
+-- any of its slots is in order
 pub order-at : (t : Table) → InOrder t → (i : ℕ) → Ordered (limit t) (t .next) (getD (t .slots) i Free)
 unfolding Ordered
 order-at t o i = each-at (Ordered (limit t) (t .next)) (t .slots) Free (o .slots) tt i
 
+-- a token in order is of a claim that is not malformed, so it has few types
+pub token-shaped : (top next number : ℕ) (claim : Claim) → Ordered top next (Held number claim) → malformed claim top ≡ false
+unfolding Ordered isToken
+token-shaped top next number claim o =
+    not-true (malformed claim top) (and-left (not (malformed claim top)) (ltb 0 number) (and-left (not (malformed claim top) && ltb 0 number) (ltb number next) (o .0)))
+
 pub types-small : (top next number : ℕ) (claim : Claim) → Ordered top next (Held number claim) → claim .types ≤ top
-unfolding Ordered isToken malformed unfit
+unfolding malformed unfit
 types-small top next number claim o =
-    let shaped = not-true (malformed claim top) (and-left (not (malformed claim top)) (ltb 0 number) (and-left (not (malformed claim top) && ltb 0 number) (ltb number next) (o .0))) in
-    ltb-false top (claim .types) (or-right (eqb (claim .host) 0 || eqb (claim .types) 0) (ltb top (claim .types)) (or-left (eqb (claim .host) 0 || eqb (claim .types) 0 || ltb top (claim .types)) (ltb (claim .last) (claim .first)) shaped))
+    ltb-false top (claim .types) (or-right (eqb (claim .host) 0 || eqb (claim .types) 0) (ltb top (claim .types)) (or-left (eqb (claim .host) 0 || eqb (claim .types) 0 || ltb top (claim .types)) (ltb (claim .last) (claim .first)) (token-shaped top next number claim o)))
 
 -- read again, any of its slots is what it was
 pub again-at : (t : Table) → InOrder t → (i : ℕ) → slotOf (slotBytes (getD (t .slots) i Free)) ≡ getD (t .slots) i Free

@@ -1,8 +1,9 @@
 pub mod Surveyed
 pub mod Listed
-pub mod Issued
-pub mod Asked
 pub mod Kept
+pub mod Issued
+pub mod Widening
+pub mod Asked
 pub mod Determined
 pub mod Opened
 pub mod Day

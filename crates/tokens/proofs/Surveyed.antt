@@ -2,9 +2,10 @@
 use mathlib.Core.Path.{_≡_, refl, sym, _∙_, ap}
 use mathlib.Core.Bool.{Bool, true, false}
 use mathlib.Core.List.{List, [], _∷_, _++_}
+use mathlib.Core.Logic.{_≢_}
 use Prim.Native.Nat.{ℕ, _+_, _*_, _≤_, _<_}
 use native.Mathlib.Omega.{arith}
-use borrow.Author.Tests.{eqb-true, eq-eqb, ne-eqb}
+use borrow.Author.Tests.{eqb-true, eqb-false, eq-eqb, ne-eqb, not-true}
 use lib.Dec.{eqb}
 use lib.ListN.{length, take}
 use lib.Seq.{take-all, length-take-le}
@@ -12,15 +13,21 @@ use Rattle.words.specs.Test.{if_then_else_, those, placeOf}
 use Rattle.words.specs.Number.{part}
 use Rattle.words.proofs.Tests.{differ, those-few, counted-more}
 use Rattle.words.proofs.Found.{place-within, place-more}
+use Rattle.claims.specs.Claim.{withRange}
+use Rattle.claims.specs.Rule.{conflict}
 use Rattle.claims.specs.declared.claim.Claim.{Claim}
+use Rattle.claims.proofs.Ranges.{elsewhere}
 use Rattle.table.specs.Table.{limit}
 use Rattle.table.specs.Layout.{width, slotOf, count, nextIn, tableOf}
 use Rattle.table.specs.Form.{isLength, isSlot, opening, wellFormed}
 use Rattle.table.specs.declared.slot.Slot.{Slot}
 use Rattle.table.proofs.Cuts.{table-length, table-more}
 use Rattle.table.proofs.Scans.{Checked, none-checked, one-checked, one-bad, all-checked}
+use Rattle.widest.specs.Widest.{lastByte, isRival, over, Leaves}
+use Rattle.widest.specs.declared.range.Range.{Range}
+use Rattle.widest.proofs.Narrowed.{Narrowed, no-rival, across-it}
 use Rattle.tokens.specs.Grant.{isFree, isInTheWay}
-use Rattle.tokens.specs.Scan.{Passes, SurveysSlots, Surveys}
+use Rattle.tokens.specs.Scan.{Passes, PassesToken, PassesTokenWide, SurveysSlots, Surveys}
 use Rattle.tokens.specs.declared.survey.Seen.{Seen}
 
 -- the lowest free place, which is p of so many slots; n where none is free
@@ -82,8 +89,8 @@ module _ (bytes : List ℕ) (claim : Claim) (top next : ℕ) where
             free = p .free ∙ rw (so-far .free, more, place-more isFree (take i (tableOf bytes .slots)) slot, length-so-far) (sym (lowest-more (count bytes) (placeOf isFree (take i (tableOf bytes .slots))) i h place (isFree slot)));
           }
 
-      pub ill-looked : b ≡ false → {conflicts free : ℕ} → SurveysSlots bytes claim top next (record { formed = false; conflicts = conflicts; free = free })
-      ill-looked bad = record { formed = one-bad bytes top next i (so-far .checked) h told bad; saw = λ e. absurd (differ (sym e)) }
+      pub ill-looked : b ≡ false → {r : Seen} → r .formed ≡ false → SurveysSlots bytes claim top next r
+      ill-looked bad f = record { formed = f ∙ one-bad bytes top next i (so-far .checked) h told bad; saw = λ e. absurd (differ (sym e ∙ f)) }
 
     pub all-looked : count bytes ≤ i → SurveysSlots bytes claim top next seen
     all-looked h =
@@ -96,11 +103,38 @@ module _ (bytes : List ℕ) (claim : Claim) (top next : ℕ) where
           };
         }
 
+-- a token that is no rival changes nothing, and one that is leaves a side of the range
+module _ (seen : Seen) (range : Range) (held claim : Claim) where
+  pub no-rival-passed : claim .last ≤ lastByte → isRival claim held ≡ false → PassesTokenWide seen range held claim (record { seen = seen; range = range })
+  no-rival-passed top e = record {
+    passes = record { formed = refl; conflicts = rw (no-rival held claim e (claim .first) (claim .last) top) refl; free = refl };
+    leaves = rw e refl;
+  }
+
+  pub rival-meets : isRival claim held ≡ true → claim .first ≤ held .last → held .first ≤ claim .last
+      → PassesTokenWide seen range held claim (record { seen = record { formed = seen .formed; conflicts = seen .conflicts + 1; free = seen .free }; range = range })
+  unfolding isRival
+  rival-meets e p q =
+      let rival : conflict held (withRange claim 0 lastByte) ≢ 0 = eqb-false (conflict held (withRange claim 0 lastByte)) 0 (not-true (eqb (conflict held (withRange claim 0 lastByte)) 0) e) in
+      let way : conflict held claim ≢ 0 = λ none. elsewhere held claim 0 lastByte (claim .first) (claim .last) rival none q p in
+      record {
+        passes = record { formed = refl; conflicts = rw (ne-eqb (conflict held claim) 0 way) refl; free = refl };
+        leaves = across-it claim held (over claim range) p q ∙ rw e refl;
+      }
+
+  pub rival-passed : isRival claim held ≡ true → {told : Seen} {left : Range} → PassesToken seen held claim told → Leaves claim range held left
+      → PassesTokenWide seen range held claim (record { seen = told; range = left })
+  rival-passed e p l = record { passes = p; leaves = l .answer ∙ rw e refl }
+
+-- and what range the first i slots leave
+pub record LookedWide (bytes : List ℕ) (claim : Claim) (top next i : ℕ) (seen : Seen) (range : Range) : Type 0 where
+  pub looked : Looked bytes claim top next i seen
+  pub narrowed : Narrowed bytes claim i range
+
 -- of the whole table
-pub no-survey : (bytes : List ℕ) (claim : Claim) {b : Bool} → b ≡ opening bytes → b ≡ false
-    → Surveys bytes claim (record { formed = false; conflicts = 0; free = 0 })
+pub no-survey : (bytes : List ℕ) (claim : Claim) {b : Bool} → b ≡ opening bytes → b ≡ false → {r : Seen} → r .formed ≡ false → Surveys bytes claim r
 unfolding wellFormed
-no-survey bytes claim told bad = record { formed = rw (← told, bad) refl; saw = λ e. absurd (differ (sym e)) }
+no-survey bytes claim told bad f = record { formed = rw (← told, bad) f; saw = λ e. absurd (differ (sym e ∙ f)) }
 
 pub whole-survey : (bytes : List ℕ) (claim : Claim) {b : Bool} → b ≡ opening bytes → b ≡ true → {r : Seen}
     → SurveysSlots bytes claim (limit (tableOf bytes)) (nextIn bytes) r → Surveys bytes claim r

@@ -8,8 +8,10 @@ use Rattle.claims.specs.Rule.{conflict}
 use Rattle.claims.specs.declared.claim.Claim.{Claim}
 use Rattle.table.specs.Layout.{tableOf}
 use Rattle.table.specs.Call.{saysOf, leftOf}
-use Rattle.table.specs.Day.{claim, eight, header, free, empty, one, two, back, three}
+use Rattle.table.specs.Day.{claim, eight, header, slot, free, empty, one, two, back, three}
 use Rattle.tokens.specs.Grant.{grantSays, granted}
+use Rattle.widest.specs.Widest.{lastByte, widened}
+use Rattle.tokens.specs.Widest.{withMore}
 use Rattle.tokens.specs.Ask.{listFor, askSays}
 
 -- what calls say, and the bytes that they leave
@@ -18,6 +20,10 @@ grants c = saysOf (grantSays c)
 
 unfoldable pub after : Claim → List ℕ → List ℕ
 after c = leftOf (grantSays c) (granted c)
+
+-- a grant with the widest range, as it is computed
+unfoldable pub widens : Claim → List ℕ → Said
+widens c bytes = let wide = widened c (tableOf bytes) in withMore (wide .first ∷ wide .last ∷ []) (grants c bytes)
 
 -- with a list buffer of 13 bytes, each 255
 unfoldable pub asks : Claim → List ℕ → Said
@@ -33,6 +39,10 @@ far = 0 ∷ 0 ∷ 0 ∷ 0 ∷ 0 ∷ 0 ∷ 3 ∷ 132 ∷ []
 -- host 2's status read 900 to 900 alone
 unfoldable pub status : List ℕ
 status = header 2 ++ ((1 ∷ 0 ∷ 4 ∷ 0 ∷ 2 ∷ []) ++ (eight 7 ++ (0 ∷ 0 ∷ 0 ∷ 9 ∷ [])) ++ (far ++ (far ++ eight 1))) ++ free
+
+-- hosts 1 to 4 write at 10, 90, 40 and 60, and a slot is free
+unfoldable pub far-and-near : List ℕ
+far-and-near = header 5 ++ slot 2 1 10 10 1 ++ slot 2 2 90 90 2 ++ slot 2 3 40 40 3 ++ slot 2 4 60 60 4 ++ free
 
 unfoldable pub starred : List Line
 starred =
@@ -86,5 +96,33 @@ ours =
     ∷ line (saysOf (askSays (claim 3 4 0 0) []) two) (done (0 ∷ []))
     ∷ []
 
+-- the widest grant
+unfoldable pub widest : List Line
+widest =
+    line (widens (claim 1 2 5 9) empty) (done (1 ∷ 0 ∷ lastByte ∷ []))
+    -- a rival on the left, away and touching; one's own token is none
+    ∷ line (widens (claim 2 1 150 199) one) (done (2 ∷ 100 ∷ lastByte ∷ []))
+    ∷ line (widens (claim 2 1 100 100) one) (done (2 ∷ 100 ∷ lastByte ∷ []))
+    ∷ line (widens (claim 1 1 150 199) one) (done (2 ∷ 0 ∷ lastByte ∷ []))
+    -- on the right; a read is no rival of a read
+    ∷ line (widens (claim 3 2 5 9) back) (done (3 ∷ 0 ∷ 99 ∷ []))
+    ∷ line (widens (claim 3 2 99 99) back) (done (3 ∷ 0 ∷ 99 ∷ []))
+    ∷ line (widens (claim 3 1 5 9) back) (done (3 ∷ 0 ∷ lastByte ∷ []))
+    -- on both sides, the nearer of two on each, wherever they stand
+    ∷ line (widens (claim 9 1 50 50) far-and-near) (done (5 ∷ 41 ∷ 59 ∷ []))
+    ∷ line (widens (claim 9 1 15 15) far-and-near) (done (5 ∷ 11 ∷ 39 ∷ []))
+    ∷ line (widens (claim 9 1 41 59) far-and-near) (done (5 ∷ 41 ∷ 59 ∷ []))
+    -- status and open types go by no range, and bound none
+    ∷ line (widens (claim 1 64 5 5) two) (refused 33 [])
+    ∷ line (widens (claim 2 64 5 5) one) (done (2 ∷ 0 ∷ lastByte ∷ []))
+    ∷ line (widens (claim 1 1 5 5) status) (done (2 ∷ 0 ∷ lastByte ∷ []))
+    -- refused as grant is: 30, 31, 32 before 33
+    ∷ line (widens (claim 0 1 0 0) (drop 1 empty)) (refused 30 [])
+    ∷ line (widens (claim 2 1 9 8) empty) (refused 31 [])
+    ∷ line (widens (claim 1 8 5 5) status) (refused 32 [])
+    ∷ line (widens (claim 3 1 99 100) two) (refused 32 [])
+    ∷ line (widens (claim 4 1 200 201) three) (refused 33 [])
+    ∷ []
+
 unfoldable pub day : List Line
-day = starred ++ (others ++ ours)
+day = starred ++ (others ++ (ours ++ widest))

@@ -1,4 +1,5 @@
 pub mod Grant
+pub mod Widest
 pub mod Ask
 pub mod Day
 pub mod Scan

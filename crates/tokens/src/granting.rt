@@ -1,5 +1,7 @@
 // Granting a token.
+use crate::survey::Seen;
 use crate::survey::survey;
+use crate::survey::survey_wide;
 use claims::Claim;
 use claims::is_malformed;
 use store::write_slot;
@@ -13,35 +15,45 @@ use table::refusal::MALFORMED;
 use table::refusal::NO_FREE_SLOT;
 use table::refusal::NOT_WELL_FORMED;
 use table::refusal::NUMBERS_SPENT;
+use widest::with_range;
 use words::number64;
 use writes::write_number64;
-ghost use mathlib.Core.Path.{_≡_};
-ghost use mathlib.Core.Bool.{true};
-ghost use Rattle.words.specs.Test.{placeOf};
-ghost use Rattle.table.specs.Layout.{tableOf};
-ghost use Rattle.table.specs.Form.{wellFormed};
-ghost use Rattle.tokens.specs.Grant.{isFree, Grants};
-ghost use Rattle.tokens.specs.Scan.{Issues};
+ghost use Rattle.tokens.specs.Grant.{Grants};
+ghost use Rattle.tokens.specs.Widest.{GrantsWidest};
+ghost use Rattle.tokens.specs.Scan.{Surveys, Refuses, HasRoom, Issues};
 
 // The last number is never given.
 const LAST_NUMBER: u64 = 18446744073709551615;
 
-// The claim at the lowest free slot, under the next number.
-fn issue(table: &mut [u8], free: usize, claim: Claim) -> Reply
-    requires { ⌜ (wellFormed (now table) ≡ true) × (free ≡ placeOf isFree (tableOf (now table) .slots)) ⌝ }
+// A grant's refusal by its number, in the order of the paper; 0 where there is none.
+fn refusal(table: &[u8], seen: Seen, claim: Claim) -> u8
+    requires { ⌜ Surveys (now table) claim seen ⌝ }
+    ensures { λ r. ⌜ Refuses (now (table .entry)) claim r ⌝ }
+{
+    if !seen.formed {
+        return NOT_WELL_FORMED;
+    }
+    if is_malformed(claim, LIMIT) {
+        return MALFORMED;
+    }
+    if seen.conflicts != 0 {
+        return CONFLICT;
+    }
+    if table.len() / WIDTH - 1 <= seen.free {
+        return NO_FREE_SLOT;
+    }
+    if number64(table, NEXT) == LAST_NUMBER {
+        return NUMBERS_SPENT;
+    }
+    0
+}
+
+// The claim at the lowest free slot under the next number, which is the answer.
+fn issue(table: &mut [u8], free: usize, claim: Claim) -> u64
+    requires { ⌜ HasRoom (now table) free ⌝ }
     ensures { λ r. ⌜ Issues (now (table .entry)) claim r (now (table .exit)) ⌝ }
 {
-    if table.len() / WIDTH - 1 <= free {
-        return Reply::Refused {
-            number: NO_FREE_SLOT,
-        };
-    }
     let next = number64(table, NEXT);
-    if next == LAST_NUMBER {
-        return Reply::Refused {
-            number: NUMBERS_SPENT,
-        };
-    }
     let at = WIDTH * (free + 1);
     write_slot(
         &mut table[at..at + WIDTH],
@@ -51,7 +63,7 @@ fn issue(table: &mut [u8], free: usize, claim: Claim) -> Reply
         },
     );
     write_number64(table, NEXT, next + 1);
-    Reply::Value(next)
+    next
 }
 
 // The answer is the new token's number.
@@ -59,16 +71,29 @@ pub fn grant(table: &mut [u8], claim: Claim) -> Reply
     ensures { λ r. ⌜ Grants (now (table .entry)) claim r (now (table .exit)) ⌝ }
 {
     let seen = survey(table, claim);
-    if !seen.formed {
-        return Reply::Refused {
-            number: NOT_WELL_FORMED,
-        };
+    let refused = refusal(table, seen, claim);
+    if refused != 0 {
+        return Reply::Refused { number: refused };
     }
-    if is_malformed(claim, LIMIT) {
-        return Reply::Refused { number: MALFORMED };
+    let number = issue(table, seen.free, claim);
+    Reply::Value(number)
+}
+
+// As grant, with the widest range; the answer is the new token's number and that range.
+pub fn grant_widest(table: &mut [u8], claim: Claim) -> Reply
+    ensures { λ r. ⌜ GrantsWidest (now (table .entry)) claim r (now (table .exit)) ⌝ }
+{
+    let told = survey_wide(table, claim);
+    let seen = told.seen;
+    let refused = refusal(table, seen, claim);
+    if refused != 0 {
+        return Reply::Refused { number: refused };
     }
-    if seen.conflicts != 0 {
-        return Reply::Refused { number: CONFLICT };
+    let range = told.range;
+    let number = issue(table, seen.free, with_range(claim, range));
+    Reply::Granted {
+        number,
+        first: range.first,
+        last: range.last,
     }
-    issue(table, seen.free, claim)
 }

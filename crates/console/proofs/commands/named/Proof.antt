@@ -7,7 +7,7 @@ abbrev Inv-loop : tie.InvT-loop
 Inv-loop name lines k₀ k = Unit {0}
 
 abbrev μ-loop : tie.MeasureT-loop
-μ-loop name lines k₀ k = 28 - k
+μ-loop name lines k₀ k = 29 - k
 
 pub named-spec : {M : Type 1} → statement M
 named-spec =

@@ -1,4 +1,4 @@
-use mathlib.Core.Path.{refl}
+use borrow.Author.Needs.{needs}
 use Rattle.exchange.specs.Answer.{answerOf, answerFor}
 use Rattle.exchange.proofs.answer.done.Statement.{statement}
 use Rattle.exchange.proofs.answer.done.Tie as tie
@@ -8,4 +8,5 @@ unfolding answerOf answerFor
 done-spec =
     tie.close
     (tie.spec
-    (λ c. refl))
+    (λ c κs. search needs)
+    (λ c. c .ranged .ensures))

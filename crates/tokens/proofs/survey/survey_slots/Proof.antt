@@ -1,4 +1,4 @@
-use mathlib.Core.Path.{_∙_, ap}
+use mathlib.Core.Path.{refl, _∙_, ap}
 use Prim.Native.Nat.{_+_, _-_, _*_}
 use native.Mathlib.Omega.{arith}
 use borrow.Author.Needs.{needs}
@@ -33,7 +33,7 @@ survey-slots-spec =
     (λ c. let w = c .before .loop .inv .checked .size .whole in let f = c .before .loop .inv .checked .size .few in let t = c .loop-test .taken in omega arith)
     (λ c. let w = c .before .loop .inv .checked .size .whole in let f = c .before .loop .inv .checked .size .few in let t = c .loop-test .taken in omega arith)
     (λ c κs. search needs)
-    (λ c. ill-looked (c .before .before .before .before .before .before .args .table .now) (c .before .before .before .before .before .before .args .claim) (c .before .before .before .before .before .before .args .limit) (c .before .before .before .before .before .before .args .next) (c .before .before .before .before .loop .i) (c .before .before .before .before .loop .seen) (c .before .before .before .before .loop .inv) (c .before .before .before .loop-test .taken) (c .before .is-slot .ensures .answer ∙ ap (isSlot (c .before .before .before .before .before .before .args .limit) (c .before .before .before .before .before .before .args .next)) (lent-part (width * (c .before .before .before .before .loop .i + 1)) width (c .before .before .before .before .before .before .args .table .now))) (not-true (c .before .is-slot .result) (c .if1 .taken)))
+    (λ c. ill-looked (c .before .before .before .before .before .before .args .table .now) (c .before .before .before .before .before .before .args .claim) (c .before .before .before .before .before .before .args .limit) (c .before .before .before .before .before .before .args .next) (c .before .before .before .before .loop .i) (c .before .before .before .before .loop .seen) (c .before .before .before .before .loop .inv) (c .before .before .before .loop-test .taken) (c .before .is-slot .ensures .answer ∙ ap (isSlot (c .before .before .before .before .before .before .args .limit) (c .before .before .before .before .before .before .args .next)) (lent-part (width * (c .before .before .before .before .loop .i + 1)) width (c .before .before .before .before .before .before .args .table .now))) (not-true (c .before .is-slot .result) (c .if1 .taken)) refl)
     (λ c κs. search needs)
     (λ c κs. few-conflicts (c .before .before .before .before .before .before .before .args .table .now) (c .before .before .before .before .before .before .before .args .claim) (c .before .before .before .before .before .before .before .args .limit) (c .before .before .before .before .before .before .before .args .next) (c .before .before .before .before .before .loop .i) (c .before .before .before .before .before .loop .seen) (c .before .before .before .before .before .loop .inv))
     (λ c. let w = c .before .before .before .before .before .before .loop .inv .checked .size .whole in let f = c .before .before .before .before .before .before .loop .inv .checked .size .few in let t = c .before .before .before .before .before .loop-test .taken in omega arith)
