@@ -20,7 +20,7 @@ use Rattle.widest.specs.declared.range.Range.{Range}
 use Rattle.tokens.specs.Grant.{isFree, isInTheWay, lastNumber, grantSays, granted}
 use Rattle.tokens.specs.Ask.{entryFor}
 use Rattle.tokens.specs.declared.survey.Seen.{Seen}
-use Rattle.tokens.specs.declared.survey.SeenWide.{SeenWide}
+use Rattle.tokens.specs.declared.wide.SeenWide.{SeenWide}
 
 -- one slot more, the one at i of n; before a free one is seen the free place is n
 pub record Passes (seen : Seen) (i n : ℕ) (slot : Slot) (claim : Claim) (r : Seen) : Type 0 where

@@ -1,7 +1,7 @@
 // Granting a token.
 use crate::survey::Seen;
 use crate::survey::survey;
-use crate::survey::survey_wide;
+use crate::wide::survey_wide;
 use claims::Claim;
 use claims::is_malformed;
 use store::write_slot;

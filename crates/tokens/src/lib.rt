@@ -2,6 +2,7 @@
 mod asking;
 mod granting;
 mod survey;
+mod wide;
 
 pub use asking::ask;
 pub use granting::grant;

@@ -2,8 +2,8 @@ use mathlib.Core.Path.{refl, _∙_}
 use borrow.Author.Needs.{needs}
 use Rattle.widest.specs.Widest.{narrowed}
 use Rattle.tokens.specs.Grant.{isFree, isInTheWay}
-use Rattle.tokens.proofs.survey.pass_wide.Statement.{statement}
-use Rattle.tokens.proofs.survey.pass_wide.Tie as tie
+use Rattle.tokens.proofs.wide.pass_wide.Statement.{statement}
+use Rattle.tokens.proofs.wide.pass_wide.Tie as tie
 
 pub pass-wide-spec : {M : Type 1} → statement M
 unfolding isFree isInTheWay narrowed
@@ -15,5 +15,5 @@ pass-wide-spec =
     (λ c κs. search needs)
     (λ c. search needs)
     (λ c κs. search needs)
-    (λ c. rw (c .told .ensures) (record { passes = record { formed = refl; conflicts = rw (c .before .before .enum-told .given .1) refl; free = c .before .lowest .ensures ∙ rw (c .before .before .enum-told .given .1) refl }; leaves = rw (c .before .before .enum-told .given .1) refl }))
+    (λ c. rw (c .seen-wide .ensures) (record { passes = record { formed = refl; conflicts = rw (c .before .before .enum-told .given .1) refl; free = c .before .lowest .ensures ∙ rw (c .before .before .enum-told .given .1) refl }; leaves = rw (c .before .before .enum-told .given .1) refl }))
     (λ c. record { passes = record { formed = c .pass-token-wide .ensures .passes .formed; conflicts = c .pass-token-wide .ensures .passes .conflicts ∙ rw (c .before .before .slot .given .1) refl; free = c .pass-token-wide .ensures .passes .free ∙ rw (c .before .before .slot .given .1) refl }; leaves = c .pass-token-wide .ensures .leaves ∙ rw (c .before .before .slot .given .1) refl }))

@@ -11,8 +11,8 @@ use Rattle.table.proofs.Determined.{slot-is}
 use Rattle.widest.proofs.Narrowed.{none-narrowed, one-narrowed, all-narrowed}
 use Rattle.tokens.proofs.Surveyed.{LookedWide, none-looked, few-conflicts, one-looked, ill-looked, all-looked}
 use native.Mathlib.Omega.{arith}
-use Rattle.tokens.proofs.survey.survey_slots_wide.Statement.{statement}
-use Rattle.tokens.proofs.survey.survey_slots_wide.Tie as tie
+use Rattle.tokens.proofs.wide.survey_slots_wide.Statement.{statement}
+use Rattle.tokens.proofs.wide.survey_slots_wide.Tie as tie
 
 abbrev Inv-loop : tie.InvT-loop
 Inv-loop table claim limit next n seen₀ range₀ i₀ seen range i = LookedWide table claim limit next i seen range

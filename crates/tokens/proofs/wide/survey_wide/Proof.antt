@@ -6,8 +6,8 @@ use Rattle.table.specs.Table.{limit}
 use Rattle.table.specs.Layout.{nextIn, tableOf}
 use Rattle.table.proofs.Forms.{opening-length}
 use Rattle.tokens.proofs.Surveyed.{no-survey, whole-survey}
-use Rattle.tokens.proofs.survey.survey_wide.Statement.{statement}
-use Rattle.tokens.proofs.survey.survey_wide.Tie as tie
+use Rattle.tokens.proofs.wide.survey_wide.Statement.{statement}
+use Rattle.tokens.proofs.wide.survey_wide.Tie as tie
 
 pub survey-wide-spec : {M : Type 1} → statement M
 unfolding limit nextIn tableOf

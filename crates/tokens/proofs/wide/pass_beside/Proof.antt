@@ -1,7 +1,7 @@
 use borrow.Author.Needs.{needs}
 use Rattle.tokens.proofs.Surveyed.{rival-passed}
-use Rattle.tokens.proofs.survey.pass_beside.Statement.{statement}
-use Rattle.tokens.proofs.survey.pass_beside.Tie as tie
+use Rattle.tokens.proofs.wide.pass_beside.Statement.{statement}
+use Rattle.tokens.proofs.wide.pass_beside.Tie as tie
 
 pub pass-beside-spec : {M : Type 1} → statement M
 pass-beside-spec =
