@@ -18,7 +18,7 @@ use Rattle.table.specs.declared.reply.Reply.{Reply}
 use Rattle.table.specs.declared.reply.Reply.the-variants.{Refused}
 use Rattle.table.proofs.Calls.{says-ill, says-well}
 use Rattle.tokens.specs.Grant.{requestSays, serveSays, grantSays as plainGrantSays, Grants as GrantsPlain}
-use Rattle.tokens.specs.Widest.{withMore, Widened, GrantsWidest as GrantsWidestPlain}
+use Rattle.tokens.specs.Widest.{withMore, GrantsWidest as GrantsWidestPlain}
 use Rattle.tokens.specs.Ask.{listSays, askSays as plainAskSays, Asks as AsksPlain}
 use Rattle.access.specs.Access.{Access, accessSays}
 use Rattle.desk.specs.Order.{judgedSays}

@@ -13,12 +13,13 @@ use Rattle.words.specs.Said.{Said, done, refused, isDone}
 use Rattle.words.proofs.Tests.{differ, and-left, and-right, or-one}
 use Rattle.words.proofs.Written.{number-fits}
 use Rattle.list.specs.Checking.{checkSays}
+use Rattle.claims.specs.Claim.{withRange}
 use Rattle.table.specs.Layout.{Fits}
 use Rattle.table.specs.Reply.{replySays}
 use Rattle.table.specs.Fill.{fillSays, Fills as FillsTable}
 use Rattle.table.specs.Call.{saysOf}
 use Rattle.table.specs.declared.reply.Reply.{Reply}
-use Rattle.table.specs.declared.reply.Reply.the-variants.{Done, Value, Granted}
+use Rattle.table.specs.declared.reply.Reply.the-variants.{Done, Value, Granted, Refused}
 use Rattle.returns.specs.Return.{returnSays, returned, Returns as ReturnsTypes}
 use Rattle.returns.specs.DropHost.{dropSays, Drops as DropsTable}
 use Rattle.audit.specs.Audit.{sound}
@@ -27,6 +28,7 @@ use Rattle.access.specs.Needs.{needed}
 use Rattle.desk.specs.Grant.{grantSays, Grants as GrantsToken}
 use Rattle.desk.specs.Widest.{GrantsWidest as GrantsWidestToken}
 use Rattle.desk.specs.Ask.{askSays, Asks as AsksTable}
+use Rattle.desk.proofs.Determined.{grant-determined}
 use Rattle.exchange.specs.Answer.{answerFor, answerOf, truthSays}
 use Rattle.exchange.specs.Given.{claimOf, entryOf, callerOf, fileOf, guardOf}
 use Rattle.exchange.specs.declared.answer.Answer.{Answer}
@@ -37,8 +39,9 @@ use Rattle.histories.specs.Shape.{Shape, shape, isAnswer, faults, ofChec
 use Rattle.histories.specs.History.{Leaves, RunsBy, Runs, Reached, Resumed, Gives, judged, widest}
 use Rattle.histories.specs.Callback.{TurnLeaves, Returned}
 use Rattle.histories.specs.Demands.{Ends, Again, Demand2Of, Demand3Of, NumbersOnceOf}
-use Rattle.histories.specs.Exports.{replyBy, saidBy, Typed, Export, fill, ask, grant, grantWidest, giveBack, dropHost, audit, ExportLeaves, ExportRuns, callOf, ReachedInC, ResumedInC, ExportsAreCalls, ResumedAreCalls, Answered, EndsInC, Demand1InC, Demand2InCOf, Demand2InC, TurnInC, TurnLeavesInC, ReturnedInC, turnOf, AgainInC, Demand3InCOf, Demand3InC, AskIsDoneInC, GivesInC, NumbersOnceInCOf, NumbersOnceInC, ResumingInC}
+use Rattle.histories.specs.Exports.{replyBy, saidBy, Typed, Export, fill, ask, grant, grantWidest, giveBack, dropHost, audit, ExportLeaves, ExportRuns, callOf, ReachedInC, ResumedInC, ExportsAreCalls, ResumedAreCalls, Answered, EndsInC, Demand1InC, Demand2InCOf, Demand2InC, TurnInC, TurnLeavesInC, ReturnedInC, turnOf, AgainInC, Demand3InCOf, Demand3InC, AskIsDoneInC, GivesInC, NumbersOnceInCOf, NumbersOnceInC, ResumingInC, WideningInC}
 use Rattle.histories.proofs.Shapes.{at-member, check-answers, decided-answers, put-answers, drop-entry-answers, fill-answers, ask-answers, grant-answers, grant-widest-answers, return-answers, drop-answers}
+use Rattle.histories.proofs.Widening.{widening}
 use Rattle.histories.proofs.Reaching.{numbers-once}
 use Rattle.histories.proofs.Demands.{ends, table-ends, widest-ends, audit-answers, demand2, demand3, ask-is-done, resuming}
 
@@ -295,3 +298,24 @@ ask-is-done-in-c bytes formed claim shaped access permitted out room a after q =
     let w = ask-is-done bytes formed (claimOf claim) shaped access permitted out room (replyBy ofAsk a) after (asks-back q) in
     let told = demand1-in-c .ask bytes out after claim access a q .answered .fields in
     ap (λ (x : Answer). x .refused) (told ∙ ap (λ (x : Reply). answerFor (replySays x) 0 0) (w .1))
+
+-- what a grant's answer is, by its reply
+module _ {bytes after : List ℕ} {claim : Claim} {access : Access} {a : Answer} (g : Grants bytes claim access a after) where
+  by-reply : (r : Reply) → replyBy ofGrant a ≡ r → a ≡ answerOf (replySays r)
+  unfolding answerOf
+  by-reply r e = demand1-in-c .grant bytes after claim access a g .answered .fields ∙ ap (λ (x : Reply). answerFor (replySays x) 0 0) e
+
+pub widening-in-c : WideningInC
+unfolding claimOf ofGrantWidest ofGrant shape answerOf answerFor replySays
+widening-in-c = record {
+  as-grant = λ bytes after claim access a g e b later h.
+      let wide : GrantsWidestToken bytes (claimOf claim) access (Granted (a .value) (a .first) (a .last)) after = rw (← zero-back ofGrantWidest a e) (grants-widest-back g) in
+      let same = grant-determined bytes (withRange (claimOf claim) (a .first) (a .last)) access (replyBy ofGrant b) (Value (a .value)) later after (grants-back h)
+      (widening .as-grant bytes after (claimOf claim) access (a .value) (a .first) (a .last) wide) in
+      let told = by-reply h (Value (a .value)) (same .0) in
+      (ap (λ (x : Answer). x .refused) told, ap (λ (x : Answer). x .value) told, same .1);
+  no-wider = λ bytes after claim access a g e f l w b later h.
+      let wide : GrantsWidestToken bytes (claimOf claim) access (Granted (a .value) (a .first) (a .last)) after = rw (← zero-back ofGrantWidest a e) (grants-widest-back g) in
+      let no = widening .no-wider bytes after (claimOf claim) access (a .value) (a .first) (a .last) wide f l w (replyBy ofGrant b) later (grants-back h) in
+      (ap (λ (x : Answer). x .refused) (by-reply h (Refused 32) (no .0)), no .1);
+}

@@ -1,23 +1,23 @@
 -- The widest grant is the grant of the given range, and no wider one would have been granted. Assumes nothing.
 use mathlib.Core.Path.{_≡_, refl, sym, _∙_, ap}
 use mathlib.Core.Bool.{Bool, true, false}
-use mathlib.Core.List.{List, [], _∷_, _++_, List·Memᴰ, List·Memᴰ·head, List·Memᴰ·tail}
+use mathlib.Core.List.{List, [], _∷_, List·Memᴰ, List·Memᴰ·head, List·Memᴰ·tail}
 use Prim.Native.Nat.{ℕ, _≤_}
 use native.Mathlib.Nat.{le-refl}
 use native.Mathlib.Omega.{arith}
 use borrow.Author.Tests.{eq-eqb, ne-eqb, le-ltb}
-use lib.Dec.{eqb, ltb}
+use lib.Dec.{ltb}
 use lib.ListN.{getD}
-use Rattle.words.specs.Test.{if_then_else_, anyOf}
-use Rattle.words.specs.Said.{Said, done, refused, isDone, andThen, left}
-use Rattle.words.proofs.Tests.{differ, or-left}
+use Rattle.words.specs.Test.{anyOf}
+use Rattle.words.specs.Said.{Said, done, refused, isDone, andThen}
+use Rattle.words.proofs.Tests.{or-left}
 use Rattle.words.proofs.Left.{not-done}
 use Rattle.claims.specs.Claim.{unfit, malformed, withRange}
 use Rattle.claims.specs.Rule.{conflict}
 use Rattle.claims.specs.declared.claim.Claim.{Claim}
 use Rattle.claims.proofs.Ranges.{in-order}
 use Rattle.table.specs.Table.{Table, limit}
-use Rattle.table.specs.Layout.{tableOf, bytesOf}
+use Rattle.table.specs.Layout.{tableOf}
 use Rattle.table.specs.Form.{wellFormed}
 use Rattle.table.specs.Reply.{replySays}
 use Rattle.table.specs.Call.{saysOf, leftOf}

@@ -31,6 +31,7 @@ use Rattle.histories.specs.Shape.{Shape, isAnswer, ofCheck, ofRights, of
 use Rattle.histories.specs.History.{Return, Call, toFill, toAsk, toGrant, toGrantWidest, toReturn, toDropHost, toAudit, isFill, RunsBy, Reached, Resumed}
 use Rattle.histories.specs.Callback.{entriesIn, Turn}
 use Rattle.histories.specs.Demands.{NoTwoConflict, LeastThatServes}
+use Rattle.histories.specs.Widening.{Wider}
 
 -- the way back from an answer to the call's reply, by what that call can answer
 unfoldable pub replyBy : Shape → Answer → Reply
@@ -209,3 +210,16 @@ pub record ResumingInC : Type 0 where
   pub demand2 : Demand2InCOf ResumedInC
   pub demand3 : Demand3InCOf ResumedInC
   pub numbers-once : NumbersOnceInCOf ResumedInC
+
+-- the same claim over another range
+abbrev pub ranged : Claim → ℕ → ℕ → Claim
+ranged claim first last = record { types = claim .types; host = claim .host; file = claim .file; first = first; last = last }
+
+-- of a widest grant that answers 0: a grant of the given range on the same bytes answers 0 and the same number, and leaves the same bytes; one of a
+-- range that holds the asked one and does not lie within the given one answers 32
+pub record WideningInC : Type 0 where
+  pub as-grant : (bytes after : List ℕ) (claim : Claim) (access : Access) (a : Answer) → GrantsWidest bytes claim access a after → a .refused ≡ 0
+      → (b : Answer) (later : List ℕ) → Grants bytes (ranged claim (a .first) (a .last)) access b later → (b .refused ≡ 0) × (b .value ≡ a .value) × (later ≡ after)
+  pub no-wider : (bytes after : List ℕ) (claim : Claim) (access : Access) (a : Answer) → GrantsWidest bytes claim access a after → a .refused ≡ 0
+      → (f l : ℕ) → Wider (claimOf claim) (a .first) (a .last) f l
+      → (b : Answer) (later : List ℕ) → Grants bytes (ranged claim f l) access b later → (b .refused ≡ 32) × (later ≡ bytes)

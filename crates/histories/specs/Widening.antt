@@ -2,7 +2,6 @@
 use mathlib.Core.List.{List}
 use mathlib.Core.Path.{_≡_}
 use Prim.Native.Nat.{ℕ, _≤_}
-use Rattle.words.specs.Number.{Bytes}
 use Rattle.claims.specs.Claim.{withRange}
 use Rattle.claims.specs.declared.claim.Claim.{Claim}
 use Rattle.table.specs.declared.reply.Reply.{Reply}

@@ -8,7 +8,7 @@ use native.Mathlib.Omega.{arith}
 use borrow.Author.Tests.{lt-ltb, le-ltb, ltb-true, eq-eqb, ne-eqb}
 use lib.Dec.{eqb, ltb}
 use lib.ListN.{length, length-set}
-use Rattle.words.specs.Test.{if_then_else_, anyOf, placeOf}
+use Rattle.words.specs.Test.{anyOf, placeOf}
 use Rattle.words.specs.Said.{done, refused, andThen}
 use Rattle.words.specs.Number.{Bytes, numberAt}
 use Rattle.words.specs.Writing.{digits, over, written}
@@ -22,8 +22,7 @@ use Rattle.table.specs.Table.{limit, put}
 use Rattle.table.specs.Layout.{width, slotBytes, count, nextIn, tableOf, bytesOf}
 use Rattle.table.specs.Form.{wellFormed}
 use Rattle.table.specs.Reply.{replySays}
-use Rattle.table.specs.Call.{saysOf, leftOf}
-use Rattle.table.specs.declared.reply.Reply.{Reply}
+use Rattle.table.specs.Call.{saysOf}
 use Rattle.table.specs.declared.reply.Reply.the-variants.{Value, Refused}
 use Rattle.table.specs.declared.slot.Slot.the-variants.{Held}
 use Rattle.table.proofs.Cuts.{table-length}

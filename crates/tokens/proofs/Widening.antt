@@ -1,12 +1,12 @@
 -- A grant with the widest range, by what the code finds. Assumes nothing.
 use mathlib.Core.Path.{_≡_, refl, sym, _∙_, ap, subst}
 use mathlib.Core.Bool.{false}
-use mathlib.Core.List.{List, [], _∷_, _++_, List·Memᴰ, List·Memᴰ·head, List·Memᴰ·tail, List·Memᴰ·not-nil}
+use mathlib.Core.List.{List, [], _∷_, List·Memᴰ, List·Memᴰ·head, List·Memᴰ·tail, List·Memᴰ·not-nil}
 use Prim.Native.Nat.{ℕ, _≤_}
 use borrow.Author.Tests.{eqb-true, not-false}
 use lib.Dec.{eqb}
 use Rattle.words.specs.Test.{anyOf}
-use Rattle.words.specs.Said.{Said, done, refused, isDone}
+use Rattle.words.specs.Said.{refused, isDone}
 use Rattle.words.specs.Number.{Bytes}
 use Rattle.words.proofs.Tests.{differ, Each, none-any}
 use Rattle.words.proofs.Left.{left-whole}
@@ -17,10 +17,9 @@ use Rattle.claims.proofs.Ranges.{in-order}
 use Rattle.table.specs.Table.{Table, limit}
 use Rattle.table.specs.Layout.{tableOf, bytesOf}
 use Rattle.table.specs.Reply.{replySays}
-use Rattle.table.specs.Call.{saysOf, leftOf}
 use Rattle.table.specs.declared.reply.Reply.the-variants.{Granted, Refused}
 use Rattle.table.specs.declared.slot.Slot.{Slot}
-use Rattle.table.specs.declared.slot.Slot.the-variants.{Free, Held}
+use Rattle.table.specs.declared.slot.Slot.the-variants.{Held}
 use Rattle.table.proofs.Means.{InOrder, Ordered, ordered, token-shaped}
 use Rattle.table.proofs.Calls.{left-by, left-refused}
 use Rattle.widest.specs.Widest.{lastByte, Widest, widened, over, Ranges}

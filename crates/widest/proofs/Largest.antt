@@ -17,7 +17,7 @@ use Rattle.claims.proofs.Ranges.{clear, elsewhere}
 use Rattle.table.specs.Table.{Table}
 use Rattle.table.specs.declared.slot.Slot.{Slot}
 use Rattle.table.specs.declared.slot.Slot.the-variants.{Free, Held}
-use Rattle.widest.specs.Widest.{lastByte, Serves, Widest, later, earlier, isRival, beside, narrowed, widened}
+use Rattle.widest.specs.Widest.{lastByte, Widest, later, earlier, isRival, beside, narrowed, widened}
 use Rattle.widest.proofs.Narrowed.{no-rival}
 
 -- a range about the asked one

@@ -2,11 +2,11 @@
 use mathlib.Core.Path.{_≡_, refl, sym, _∙_, ap}
 use mathlib.Core.Bool.{false}
 use mathlib.Core.List.{List, [], _∷_, _++_, foldl, foldl-append}
-use Prim.Native.Nat.{ℕ, zero, _+_, _-_, _*_, _≤_, _<_}
+use Prim.Native.Nat.{ℕ, _+_, _-_, _*_, _≤_, _<_}
 use native.Mathlib.Omega.{arith}
 use borrow.Author.Tests.{eqb-true, not-false, lt-ltb, le-ltb}
 use lib.Dec.{eqb}
-use lib.ListN.{length, take}
+use lib.ListN.{take}
 use lib.Seq.{take-all}
 use Rattle.words.specs.Number.{part}
 use Rattle.claims.specs.Claim.{withRange}

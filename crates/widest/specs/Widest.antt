@@ -1,7 +1,7 @@
 -- The widest range of a claim: the largest that holds the asked one and still conflicts with nobody.
 use mathlib.Core.Path.{_≡_}
 use mathlib.Core.Bool.{Bool, not}
-use mathlib.Core.List.{List, foldl, List·Memᴰ}
+use mathlib.Core.List.{foldl, List·Memᴰ}
 use Prim.Native.Nat.{ℕ, _+_, _-_, _≤_}
 use lib.Dec.{eqb, ltb}
 use Rattle.words.specs.Test.{if_then_else_}
