@@ -20,7 +20,7 @@ use Rattle.claims.specs.Rule.{Conflicting}
 use Rattle.claims.specs.declared.claim.Claim.{Claim}
 use Rattle.claims.proofs.Sets.{nonempty}
 use Rattle.claims.proofs.Sentence.{in-conflict}
-use Rattle.table.specs.Table.{Table, limit}
+use Rattle.table.specs.Table.{Table, limit, isInTheWay}
 use Rattle.table.specs.Layout.{tableOf, bytesOf}
 use Rattle.table.specs.Reply.{replySays}
 use Rattle.table.specs.Call.{saysOf, leftOf}
@@ -29,7 +29,7 @@ use Rattle.table.specs.declared.slot.Slot.the-variants.{Held}
 use Rattle.table.proofs.Calls.{says-well}
 use Rattle.table.proofs.Determined.{same-reply}
 use Rattle.table.proofs.Means.{Ordered, table-bytes, bytes-formed, order-at, below-next}
-use Rattle.tokens.specs.Grant.{isInTheWay, requestSays, serveSays, roomSays}
+use Rattle.tokens.specs.Grant.{requestSays, serveSays, roomSays}
 use Rattle.tokens.specs.Widest.{withMore, Widened}
 use Rattle.tokens.specs.Ask.{inTheWay, listFor, listSays}
 use Rattle.tokens.proofs.Listed.{list-length}

@@ -17,12 +17,11 @@ use Rattle.words.proofs.Written.{digits-number}
 use Rattle.claims.specs.Rule.{conflict}
 use Rattle.claims.specs.declared.claim.Claim.{Claim}
 use Rattle.claims.proofs.Within.{conflict-less}
-use Rattle.table.specs.Table.{Table, limit}
+use Rattle.table.specs.Table.{Table, limit, isInTheWay}
 use Rattle.table.specs.Layout.{joined}
 use Rattle.table.specs.declared.slot.Slot.{Slot}
 use Rattle.table.specs.declared.slot.Slot.the-variants.{Free, Held}
 use Rattle.table.proofs.Means.{Ordered, InOrder, below-next}
-use Rattle.tokens.specs.Grant.{isInTheWay}
 use Rattle.tokens.specs.Ask.{entryBytes, entryFor, inTheWay, listFor}
 use Rattle.histories.specs.Callback.{Entry, entryIn, entriesIn}
 

@@ -17,7 +17,7 @@ use Rattle.claims.specs.Claim.{unfit, malformed}
 use Rattle.claims.specs.declared.claim.Claim.{Claim}
 use Rattle.claims.proofs.Sets.{member, part-less}
 use Rattle.claims.proofs.Fewer.{none-lacking}
-use Rattle.table.specs.Table.{Table, limit}
+use Rattle.table.specs.Table.{Table, limit, isInTheWay}
 use Rattle.table.specs.Form.{isToken}
 use Rattle.table.specs.Reply.{replySays}
 use Rattle.table.specs.declared.reply.Reply.the-variants.{Done}
@@ -25,7 +25,6 @@ use Rattle.table.specs.declared.slot.Slot.{Slot}
 use Rattle.table.specs.declared.slot.Slot.the-variants.{Free, Held}
 use Rattle.table.proofs.Means.{Ordered, order-at}
 use Rattle.table.proofs.Determined.{same-reply}
-use Rattle.tokens.specs.Grant.{isInTheWay}
 use Rattle.returns.specs.Return.{isOf, typesIn, placeIn, tokenIn, returnSays}
 use Rattle.audit.specs.Audit.{apart}
 use Rattle.audit.proofs.Exactly.{tokens-apart}

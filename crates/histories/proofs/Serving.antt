@@ -18,10 +18,10 @@ use Rattle.claims.specs.Claim.{withTypes}
 use Rattle.claims.specs.declared.claim.Claim.{Claim}
 use Rattle.claims.proofs.Sets.{nonempty, member}
 use Rattle.claims.proofs.Within.{conflict-within, conflict-own, conflict-still}
-use Rattle.table.specs.Table.{Table}
+use Rattle.table.specs.Table.{Table, isFree, isInTheWay}
 use Rattle.table.specs.declared.slot.Slot.{Slot}
 use Rattle.table.specs.declared.slot.Slot.the-variants.{Free, Held}
-use Rattle.tokens.specs.Grant.{isFree, isInTheWay, lastNumber, roomSays, serveSays}
+use Rattle.tokens.specs.Grant.{lastNumber, roomSays, serveSays}
 use Rattle.histories.specs.Callback.{slotAt, Item, Holds, Entry, Listed, Turn, GivenBack}
 use Rattle.histories.proofs.Answers.{same-refusal}
 use Rattle.histories.proofs.Places.{any-at, there}

@@ -39,12 +39,12 @@ use Rattle.edit.specs.Editing.{roomSays as spaceSays, putSays, dropSays as drop
 use Rattle.claims.specs.Types.{lacks}
 use Rattle.claims.specs.Claim.{unfit, malformed}
 use Rattle.claims.specs.declared.claim.Claim.{Claim}
-use Rattle.table.specs.Table.{Table, limit}
+use Rattle.table.specs.Table.{Table, limit, isFree, isInTheWay}
 use Rattle.table.specs.Layout.{tableOf}
 use Rattle.table.specs.Form.{isLength, wellFormed}
 use Rattle.table.specs.Fill.{fillSays}
 use Rattle.table.specs.Call.{saysOf}
-use Rattle.tokens.specs.Grant.{isFree, isInTheWay, lastNumber, roomSays, requestSays, serveSays, grantSays as plainGrantSays}
+use Rattle.tokens.specs.Grant.{lastNumber, roomSays, requestSays, serveSays, grantSays as plainGrantSays}
 use Rattle.tokens.specs.Widest.{withMore}
 use Rattle.tokens.specs.Ask.{inTheWay, listFor, listSays, askSays as plainAskSays}
 use Rattle.returns.specs.Return.{isOf, typesIn, tokenIn, returnSays}

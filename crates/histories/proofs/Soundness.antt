@@ -14,11 +14,11 @@ use Rattle.claims.specs.Rule.{conflict}
 use Rattle.claims.specs.declared.claim.Claim.{Claim}
 use Rattle.claims.proofs.Symmetry.{symmetric}
 use Rattle.claims.proofs.Within.{Within, apart-within}
-use Rattle.table.specs.Table.{Table, limit, withSlots, issue}
+use Rattle.table.specs.Table.{Table, limit, withSlots, issue, isFree, isInTheWay}
 use Rattle.table.specs.declared.slot.Slot.{Slot}
 use Rattle.table.specs.declared.slot.Slot.the-variants.{Free, Held}
 use Rattle.table.proofs.Means.{Ordered, InOrder, order-at, below-next}
-use Rattle.tokens.specs.Grant.{isFree, isInTheWay, granted}
+use Rattle.tokens.specs.Grant.{granted}
 use Rattle.tokens.proofs.Kept.{Passed}
 use Rattle.audit.specs.Audit.{apart}
 use Rattle.audit.proofs.Exactly.{free-last, from-free, tokens-apart, apart-tokens}

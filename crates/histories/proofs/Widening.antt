@@ -16,7 +16,7 @@ use Rattle.claims.specs.Claim.{unfit, malformed, withRange}
 use Rattle.claims.specs.Rule.{conflict}
 use Rattle.claims.specs.declared.claim.Claim.{Claim}
 use Rattle.claims.proofs.Ranges.{in-order}
-use Rattle.table.specs.Table.{Table, limit}
+use Rattle.table.specs.Table.{Table, limit, isInTheWay}
 use Rattle.table.specs.Layout.{tableOf}
 use Rattle.table.specs.Form.{wellFormed}
 use Rattle.table.specs.Reply.{replySays}
@@ -28,7 +28,7 @@ use Rattle.table.specs.declared.slot.Slot.the-variants.{Free, Held}
 use Rattle.table.proofs.Calls.{says-ill, says-well, left-refused}
 use Rattle.table.proofs.Determined.{same-reply}
 use Rattle.widest.specs.Widest.{Serves, Widest}
-use Rattle.tokens.specs.Grant.{isInTheWay, lastNumber, roomSays, requestSays, serveSays, granted, grantSays as plainSays}
+use Rattle.tokens.specs.Grant.{lastNumber, roomSays, requestSays, serveSays, granted, grantSays as plainSays}
 use Rattle.tokens.specs.Widest.{withMore, Widened}
 use Rattle.tokens.proofs.Kept.{Passed, passed}
 use Rattle.tokens.proofs.Widening.{with-nobody}

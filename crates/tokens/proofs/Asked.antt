@@ -12,7 +12,7 @@ use Rattle.words.proofs.Tests.{those-few}
 use Rattle.words.proofs.Written.{over-start}
 use Rattle.claims.specs.Claim.{malformed}
 use Rattle.claims.specs.declared.claim.Claim.{Claim}
-use Rattle.table.specs.Table.{limit}
+use Rattle.table.specs.Table.{limit, isInTheWay}
 use Rattle.table.specs.Layout.{tableOf}
 use Rattle.table.specs.Form.{wellFormed}
 use Rattle.table.specs.Reply.{replySays}
@@ -22,10 +22,10 @@ use Rattle.table.specs.declared.reply.Reply.the-variants.{Value, Refused, Refus
 use Rattle.table.proofs.Cuts.{table-length}
 use Rattle.table.proofs.Tables.{form-size}
 use Rattle.table.proofs.Calls.{says-ill, says-well}
-use Rattle.tokens.specs.Grant.{isInTheWay, requestSays}
+use Rattle.tokens.specs.Grant.{requestSays}
 use Rattle.tokens.specs.Ask.{inTheWay, listFor, listSays, askSays, Asks}
-use Rattle.tokens.specs.Scan.{Saw}
-use Rattle.tokens.specs.declared.survey.Seen.{Seen}
+use Rattle.surveys.specs.Survey.{Saw}
+use Rattle.surveys.specs.declared.scan.Seen.{Seen}
 use Rattle.tokens.proofs.Listed.{list-length}
 
 module _ (bytes : List ℕ) (claim : Claim) (out : List ℕ) where

@@ -18,7 +18,7 @@ use Rattle.words.proofs.Written.{digits-length, written-all}
 use Rattle.words.proofs.Left.{left-whole, not-done}
 use Rattle.claims.specs.Claim.{malformed}
 use Rattle.claims.specs.declared.claim.Claim.{Claim}
-use Rattle.table.specs.Table.{limit, put}
+use Rattle.table.specs.Table.{limit, put, isFree, isInTheWay}
 use Rattle.table.specs.Layout.{width, slotBytes, count, nextIn, tableOf, bytesOf}
 use Rattle.table.specs.Form.{wellFormed}
 use Rattle.table.specs.Reply.{replySays}
@@ -28,9 +28,10 @@ use Rattle.table.specs.declared.slot.Slot.the-variants.{Held}
 use Rattle.table.proofs.Cuts.{table-length}
 use Rattle.table.proofs.Tables.{form-size, bytes-table, put-bytes, next-bytes, bytes-length}
 use Rattle.table.proofs.Calls.{says-ill, says-well, refusing, left-by}
-use Rattle.tokens.specs.Grant.{isFree, isInTheWay, lastNumber, roomSays, requestSays, serveSays, grantSays, granted, Grants}
-use Rattle.tokens.specs.Scan.{Surveys, Refuses, HasRoom, Issues}
-use Rattle.tokens.specs.declared.survey.Seen.{Seen}
+use Rattle.tokens.specs.Grant.{lastNumber, roomSays, requestSays, serveSays, grantSays, granted, Grants}
+use Rattle.surveys.specs.Survey.{Surveys}
+use Rattle.tokens.specs.Scan.{Refuses, HasRoom, Issues}
+use Rattle.surveys.specs.declared.scan.Seen.{Seen}
 use Rattle.tokens.proofs.Kept.{Passed, passed}
 
 -- the refusals, from 30 to 34

@@ -13,13 +13,13 @@ use Rattle.words.specs.Number.{Bytes}
 use Rattle.words.proofs.Left.{not-done}
 use Rattle.claims.specs.Claim.{malformed}
 use Rattle.claims.specs.declared.claim.Claim.{Claim}
-use Rattle.table.specs.Table.{Table, limit}
+use Rattle.table.specs.Table.{Table, limit, isFree, isInTheWay}
 use Rattle.table.specs.Layout.{Fits}
 use Rattle.table.specs.Form.{wellFormed}
 use Rattle.table.specs.declared.reply.Reply.{Reply}
 use Rattle.table.proofs.Means.{InOrder}
 use Rattle.table.proofs.Ordering.{issue-order, left-formed}
-use Rattle.tokens.specs.Grant.{isFree, isInTheWay, lastNumber, roomSays, requestSays, serveSays, grantSays, granted, Grants}
+use Rattle.tokens.specs.Grant.{lastNumber, roomSays, requestSays, serveSays, grantSays, granted, Grants}
 
 -- what a grant that is done tells of the request, the table and the numbers
 pub record Passed (claim : Claim) (t : Table) : Type 0 where

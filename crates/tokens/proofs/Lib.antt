@@ -1,4 +1,3 @@
-pub mod Surveyed
 pub mod Listed
 pub mod Kept
 pub mod Issued

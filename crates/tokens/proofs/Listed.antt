@@ -16,13 +16,12 @@ use Rattle.words.proofs.Tests.{Each, differ, map-append, those-append, those-pa
 use Rattle.words.proofs.Written.{digits-length, over-length, over-next, over-none, set-over, next-written}
 use Rattle.claims.specs.Rule.{conflict}
 use Rattle.claims.specs.declared.claim.Claim.{Claim}
-use Rattle.table.specs.Table.{Table}
+use Rattle.table.specs.Table.{Table, isInTheWay}
 use Rattle.table.specs.Layout.{width, slotOf, count, tableOf, joined}
 use Rattle.table.specs.Form.{isLength}
 use Rattle.table.specs.declared.slot.Slot.{Slot}
 use Rattle.table.specs.declared.slot.Slot.the-variants.{Free, Held}
 use Rattle.table.proofs.Cuts.{Sized, sized, table-length, table-more}
-use Rattle.tokens.specs.Grant.{isInTheWay}
 use Rattle.tokens.specs.Ask.{entryBytes, entryFor, inTheWay, listFor}
 use Rattle.tokens.specs.Scan.{entryIf, Lists}
 

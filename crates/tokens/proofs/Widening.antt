@@ -14,7 +14,7 @@ use Rattle.claims.specs.Claim.{withRange}
 use Rattle.claims.specs.Rule.{conflict}
 use Rattle.claims.specs.declared.claim.Claim.{Claim}
 use Rattle.claims.proofs.Ranges.{in-order}
-use Rattle.table.specs.Table.{Table, limit}
+use Rattle.table.specs.Table.{Table, limit, isInTheWay}
 use Rattle.table.specs.Layout.{tableOf, bytesOf}
 use Rattle.table.specs.Reply.{replySays}
 use Rattle.table.specs.declared.reply.Reply.the-variants.{Granted, Refused}
@@ -25,7 +25,7 @@ use Rattle.table.proofs.Calls.{left-by, left-refused}
 use Rattle.widest.specs.Widest.{lastByte, Widest, widened, over, Ranges}
 use Rattle.widest.specs.declared.range.Range.{Range}
 use Rattle.widest.proofs.Largest.{Token, widened-widest}
-use Rattle.tokens.specs.Grant.{isInTheWay, grantSays, granted}
+use Rattle.tokens.specs.Grant.{grantSays, granted}
 use Rattle.tokens.specs.Widest.{withMore, GrantsWidest}
 use Rattle.tokens.specs.Scan.{Refuses, Issues}
 use Rattle.tokens.proofs.Kept.{Passed}

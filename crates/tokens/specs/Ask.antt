@@ -9,14 +9,14 @@ use Rattle.words.specs.Said.{Said, done, refused, andThen, left}
 use Rattle.words.specs.Writing.{digits}
 use Rattle.claims.specs.Rule.{conflict}
 use Rattle.claims.specs.declared.claim.Claim.{Claim}
-use Rattle.table.specs.Table.{Table}
+use Rattle.table.specs.Table.{Table, isInTheWay}
 use Rattle.table.specs.Layout.{joined, tableOf}
 use Rattle.table.specs.Reply.{replySays}
 use Rattle.table.specs.Call.{saysOf}
 use Rattle.table.specs.declared.reply.Reply.{Reply}
 use Rattle.table.specs.declared.slot.Slot.{Slot}
 use Rattle.table.specs.declared.slot.Slot.the-variants.{Free, Held}
-use Rattle.tokens.specs.Grant.{isInTheWay, requestSays}
+use Rattle.tokens.specs.Grant.{requestSays}
 
 -- kind 3, number 8, host 2, conflicting types of that token 2
 unfoldable pub entryBytes : ℕ → ℕ → ℕ → List ℕ

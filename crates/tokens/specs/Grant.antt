@@ -1,29 +1,17 @@
 -- Grant takes the lowest free slot, gives it the next number, which is the answer, and raises next by one.
 use mathlib.Core.Path.{_≡_}
-use mathlib.Core.Bool.{Bool, true, false, not}
+use mathlib.Core.Bool.{not}
 use mathlib.Core.List.{List, [], _∷_}
 use Prim.Native.Nat.{ℕ}
 use lib.Dec.{eqb}
 use Rattle.words.specs.Test.{if_then_else_, anyOf, placeOf}
 use Rattle.words.specs.Said.{Said, done, refused, andThen}
 use Rattle.claims.specs.Claim.{malformed}
-use Rattle.claims.specs.Rule.{conflict}
 use Rattle.claims.specs.declared.claim.Claim.{Claim}
-use Rattle.table.specs.Table.{Table, limit, issue}
+use Rattle.table.specs.Table.{Table, limit, issue, isFree, isInTheWay}
 use Rattle.table.specs.Reply.{replySays}
 use Rattle.table.specs.Call.{saysOf, leftOf}
 use Rattle.table.specs.declared.reply.Reply.{Reply}
-use Rattle.table.specs.declared.slot.Slot.{Slot}
-use Rattle.table.specs.declared.slot.Slot.the-variants.{Free, Held}
-
-unfoldable pub isFree : Slot → Bool
-isFree Free = true
-isFree (Held number held) = false
-
--- the slot's token conflicts with a claim
-unfoldable pub isInTheWay : Claim → Slot → Bool
-isInTheWay claim Free = false
-isInTheWay claim (Held number held) = not (eqb (conflict held claim) 0)
 
 -- this number is never given
 unfoldable pub lastNumber : ℕ

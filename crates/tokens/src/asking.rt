@@ -1,8 +1,8 @@
 // Asking what is in the way of a request.
-use crate::survey::survey;
 use claims::Claim;
 use claims::conflict;
 use claims::is_malformed;
+use surveys::survey;
 use table::LIMIT;
 use table::Reply;
 use table::Slot;

@@ -1,10 +1,10 @@
 // Granting a token.
-use crate::survey::Seen;
-use crate::survey::survey;
-use crate::wide::survey_wide;
 use claims::Claim;
 use claims::is_malformed;
 use store::write_slot;
+use surveys::Seen;
+use surveys::survey;
+use surveys::survey_wide;
 use table::LIMIT;
 use table::NEXT;
 use table::Reply;
@@ -18,9 +18,10 @@ use table::refusal::NUMBERS_SPENT;
 use widest::with_range;
 use words::number64;
 use writes::write_number64;
+ghost use Rattle.surveys.specs.Survey.{Surveys};
 ghost use Rattle.tokens.specs.Grant.{Grants};
 ghost use Rattle.tokens.specs.Widest.{GrantsWidest};
-ghost use Rattle.tokens.specs.Scan.{Surveys, Refuses, HasRoom, Issues};
+ghost use Rattle.tokens.specs.Scan.{Refuses, HasRoom, Issues};
 
 // The last number is never given.
 const LAST_NUMBER: u64 = 18446744073709551615;

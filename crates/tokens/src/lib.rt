@@ -1,8 +1,6 @@
 // The calls that take tokens, access apart: ask, grant, and grant with the widest range.
 mod asking;
 mod granting;
-mod survey;
-mod wide;
 
 pub use asking::ask;
 pub use granting::grant;

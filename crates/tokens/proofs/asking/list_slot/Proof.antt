@@ -2,7 +2,7 @@ use mathlib.Core.Path.{refl, sym, _∙_}
 use native.Mathlib.Omega.{arith}
 use borrow.Author.Needs.{needs}
 use Rattle.words.proofs.Written.{over-none}
-use Rattle.tokens.specs.Grant.{isInTheWay}
+use Rattle.table.specs.Table.{isInTheWay}
 use Rattle.tokens.specs.Scan.{entryIf}
 use Rattle.tokens.proofs.asking.list_slot.Statement.{statement}
 use Rattle.tokens.proofs.asking.list_slot.Tie as tie
