@@ -1,5 +1,5 @@
-use native.Mathlib.Omega.{arith}
 use mathlib.Core.Path.{_∙_}
+use native.Mathlib.Omega.{arith}
 use borrow.Author.Needs.{needs}
 use Rattle.tokens.proofs.Issued.{done-formed, done-room}
 use Rattle.tokens.proofs.Widening.{refused-so, widest-so}

@@ -1,6 +1,6 @@
+use Prim.Native.Nat.{_+_, _*_}
 use native.Mathlib.Omega.{arith}
 use borrow.Author.Needs.{needs}
-use Prim.Native.Nat.{_+_, _*_}
 use Rattle.table.specs.Layout.{width}
 use Rattle.table.specs.declared.slot.Slot.the-variants.{Held}
 use Rattle.table.proofs.Tables.{form-size}

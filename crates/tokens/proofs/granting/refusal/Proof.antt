@@ -1,6 +1,6 @@
+use mathlib.Core.Path.{sym, _∙_}
 use native.Mathlib.Omega.{arith}
 use borrow.Author.Needs.{needs}
-use mathlib.Core.Path.{sym, _∙_}
 use borrow.Author.Tests.{not-true, not-false}
 use Rattle.table.proofs.Tables.{form-size}
 use Rattle.tokens.proofs.Issued.{ill-formed, misshapen, in-conflict, no-room, numbers-spent, none-refused}
