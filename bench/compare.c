@@ -7,6 +7,7 @@
 #include "draw.h"
 #include "histories.h"
 #include "inputs.h"
+#include "local.h"
 #include "readers.h"
 #include "widest.h"
 
@@ -70,6 +71,8 @@ static void compare_rights(void)
     mastarik_answer answer = lockstep(RIGHTS, &input);
     if (answer.refused == 0 && !input.file.by_mode)
         decided[answer.length ? input.list[answer.start] : 0]++;
+    if (draw_chance(30))
+        compare_local(&input);
 }
 
 /* Every set of types, with bits above them. */
@@ -266,6 +269,7 @@ static unsigned print_summary(void)
     missing += print_tally("drop entry, list passing", &drops_from_passing, drop_refusals);
     missing += lockstep_print_empty();
     missing += widest_print_kinds();
+    missing += local_print_kinds();
     printf("rights decided by no record: %" PRIu64 "; by kind:", decided[0]);
     for (int kind = 2; kind < 12; kind++)
         printf(" %d x %" PRIu64, kind, decided[kind]);

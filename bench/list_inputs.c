@@ -4,10 +4,11 @@
 #include "draw.h"
 #include "inputs.h"
 
-/* Realms in rising order; the unknown one stands between its neighbours. */
-enum { REALMS = 8, HOME_REALM = 1, UNKNOWN_REALM = 5 };
+/* Realms in rising order; the unknown one stands between its neighbours, and the zero one before its own. */
+enum { REALMS = 9, ZERO_REALM = 0, HOME_REALM = 2, UNKNOWN_REALM = 6 };
 static const uint8_t realms[REALMS][16] = {
     {0},
+    {0, 0, 0, 0, 0, 0, 0, 0, 0, 0, 0, 0, 0, 0, 0, 1},
     {17, 17, 17, 17, 17, 17, 17, 17, 17, 17, 17, 17, 17, 17, 17, 17},
     {17, 17, 17, 17, 17, 17, 17, 17, 17, 17, 17, 17, 17, 17, 17, 18},
     {18, 17, 17, 17, 17, 17, 17, 17, 17, 17, 17, 17, 17, 17, 17, 17},
@@ -289,7 +290,7 @@ void make_access(struct input *in, bool sound)
     if (!sound && draw_chance(30))
         file->mode = draw_chance(50) ? 512 + (uint32_t)draw_below(3) : (uint32_t)draw();
     const uint8_t *home = file->by_mode || in->list_length < 17 ? file->realm : in->list + 1;
-    memcpy(caller->realm, draw_chance(60) ? home : draw_realm(), 16);
+    memcpy(caller->realm, draw_chance(60) ? home : draw_chance(30) ? realms[ZERO_REALM] : draw_realm(), 16);
 }
 
 void favour_caller(struct input *in)

@@ -168,7 +168,7 @@ static void compare_buffer(struct input *input, enum buffer buffer)
         memcpy(buffer == TABLE ? input->table : input->out, by_library, length);
 }
 
-static bool same_answer(mastarik_answer a, mastarik_answer b)
+bool same_answer(mastarik_answer a, mastarik_answer b)
 {
     return a.refused == b.refused && a.value == b.value && a.detail == b.detail && a.start == b.start &&
            a.length == b.length && a.first == b.first && a.last == b.last;

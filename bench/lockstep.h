@@ -32,6 +32,9 @@ void lockstep_begin(const char *group, uint64_t seed, uint64_t round);
  */
 mastarik_answer lockstep(enum call call, struct input *input);
 
+/* Whether two answers agree in every field. */
+bool same_answer(mastarik_answer a, mastarik_answer b);
+
 /* Ends the program with a report unless what must hold of the last call does. */
 void expect(bool holds, const char *what, const struct input *input);
 

@@ -19,8 +19,10 @@ enum held { EMPTY, HALF, FULL, ONE_FILE, APART };
 
 enum { GAP = 4096 };
 
-/* Who calls: the user of the last user record, or one whom the last of five further groups helps, at home or not. */
-enum who { NAMED, BY_GROUPS, STRANGER };
+/* Who calls: the user of the last user record, of the default realm or of the zero one, or one whom the last of five
+ * further groups helps, at home or not.
+ */
+enum who { NAMED, LOCAL, BY_GROUPS, STRANGER };
 
 struct row {
     const char *name;
@@ -76,6 +78,9 @@ static const struct row rows[] = {
     {.name = "rights of a user, 31 bytes", .call = RIGHTS, .home = 1},
     {.name = "rights of a user, 399 bytes", .call = RIGHTS, .home = 62},
     {.name = "rights of a user, 4095 bytes", .call = RIGHTS, .home = 678},
+    {.name = "rights of a user, 31 bytes, zero realm", .call = RIGHTS, .home = 1, .who = LOCAL},
+    {.name = "rights of a user, 399 bytes, zero realm", .call = RIGHTS, .home = 62, .who = LOCAL},
+    {.name = "rights of a user, 4095 bytes, zero realm", .call = RIGHTS, .home = 678, .who = LOCAL},
     {.name = "rights by 5 groups, 31 bytes", .call = RIGHTS, .home = 1, .who = BY_GROUPS},
     {.name = "rights by 5 groups, 399 bytes", .call = RIGHTS, .home = 62, .who = BY_GROUPS},
     {.name = "rights by 5 groups, 4095 bytes", .call = RIGHTS, .home = 678, .who = BY_GROUPS},
@@ -170,14 +175,20 @@ static void prepare_list(const struct row *row)
     input.list_length = (size_t)(end - input.list);
 }
 
+static bool is_named(const struct row *row)
+{
+    return row->who == NAMED || row->who == LOCAL;
+}
+
 static void prepare_caller(const struct row *row)
 {
+    static const uint8_t realms[] = {[NAMED] = 17, [LOCAL] = 0, [BY_GROUPS] = 17, [STRANGER] = 34};
     size_t groups = row->who == STRANGER ? row->foreign : row->home / 2u;
-    memset(input.caller.realm, row->who == STRANGER ? 34 : 17, sizeof input.caller.realm);
-    input.caller.user = row->who == NAMED ? FIRST_USER + 2 * (uint32_t)(users_of(row) - 1) : NOBODY;
+    memset(input.caller.realm, realms[row->who], sizeof input.caller.realm);
+    input.caller.user = is_named(row) ? FIRST_USER + 2 * (uint32_t)(users_of(row) - 1) : NOBODY;
     input.caller.group = NOBODY;
     input.file = (mastarik_file){.owner = OWNER, .group = FILE_GROUP};
-    input.group_count = row->who == NAMED ? 0 : 5;
+    input.group_count = is_named(row) ? 0 : 5;
     for (size_t i = 0; i < 4; i++)
         input.groups[i] = FIRST_GROUP + 1 + 2 * (uint32_t)i;
     input.groups[4] = groups ? FIRST_GROUP + 2 * (uint32_t)(groups - 1) : FILE_GROUP;

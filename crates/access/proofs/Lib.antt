@@ -1,3 +1,4 @@
 pub mod Masks
 pub mod Sufficient
 pub mod Determined
+pub mod Local

@@ -8,11 +8,12 @@ use borrow.Author.Tests.{ltb-false}
 use lib.Bits.{bitAnd, bitOr, and-le-l, or-lt}
 use Rattle.words.specs.Test.{if_then_else_, those}
 use Rattle.words.specs.Said.{done}
-use Rattle.words.specs.Realm.{realmAt, sameRealm}
+use Rattle.words.specs.Realm.{realmAt}
 use Rattle.words.specs.declared.realm.Realm.{Realm}
 use Rattle.words.proofs.Tests.{Each}
 use Rattle.list.specs.Checking.{Placed, records, checkSays}
 use Rattle.list.proofs.Passed.{IsSound, all-sound}
+use Rattle.evaluate.specs.Asking.{ofDefaultRealm}
 use Rattle.evaluate.specs.Steps.{steps, Served, union, isMask, masking, rightsBy}
 use Rattle.evaluate.specs.Evaluation.{servedIn}
 use Rattle.evaluate.specs.declared.asking.Caller.{Caller}
@@ -47,5 +48,5 @@ pub six-rights : (list groups : List ℕ) (caller : Caller) (file : File) → ch
 unfolding servedIn union
 six-rights list groups caller file passes =
     let home = realmAt 1 list in
-    let sound = served-each (IsSound home) (records list) (all-sound list passes) 1 (steps (sameRealm (caller .realm) home) groups caller file) in
+    let sound = served-each (IsSound home) (records list) (all-sound list passes) 1 (steps (ofDefaultRealm caller home) groups caller file) in
     rights-below (servedIn list groups caller file) (records list) (united-below home (servedIn list groups caller file .by) 0 (omega arith) sound)

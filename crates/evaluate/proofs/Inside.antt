@@ -7,11 +7,12 @@ use lib.Dec.{ltb}
 use lib.ListN.{length}
 use Rattle.words.specs.Test.{if_then_else_}
 use Rattle.words.specs.Said.{Said, done, refused}
-use Rattle.words.specs.Realm.{realmAt, sameRealm}
+use Rattle.words.specs.Realm.{realmAt}
 use Rattle.words.proofs.Tests.{Each}
 use Rattle.list.specs.Fault.{noRecord}
 use Rattle.list.specs.Checking.{Placed, placed, records, checkSays}
 use Rattle.list.proofs.Places.{EndsBy, records-within}
+use Rattle.evaluate.specs.Asking.{ofDefaultRealm}
 use Rattle.evaluate.specs.Steps.{steps, first}
 use Rattle.evaluate.specs.Evaluation.{Decided, bare, unlessTooMany, unlessRefused, byStep, servedIn, listGives, evaluation}
 use Rattle.evaluate.specs.declared.asking.Caller.{Caller}
@@ -48,7 +49,7 @@ pub gives-fits : (list groups : List ℕ) (caller : Caller) (file : File) → Fi
 unfolding Fits listGives byStep servedIn
 gives-fits list groups caller file =
     unless-fits (length list) (checkSays list) _
-    (first-within (length list) _ (served-each (EndsBy (length list)) (records list) (records-within list) 1 (steps (sameRealm (caller .realm) (realmAt 1 list)) groups caller file)))
+    (first-within (length list) _ (served-each (EndsBy (length list)) (records list) (records-within list) 1 (steps (ofDefaultRealm caller (realmAt 1 list)) groups caller file)))
 
 pub evaluation-fits : (list groups : List ℕ) (caller : Caller) (file : File) → Fits (length list) (evaluation list groups caller file)
 unfolding evaluation

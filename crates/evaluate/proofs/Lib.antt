@@ -10,5 +10,6 @@ pub mod First
 pub mod Unauthenticated
 pub mod Bounded
 pub mod Alike
+pub mod Local
 pub mod Determined
 pub mod Opened

@@ -6,11 +6,12 @@ use Prim.Native.Nat.{ℕ, _<_}
 use native.Mathlib.Omega.{arith}
 use Rattle.words.specs.Test.{those}
 use Rattle.words.specs.Said.{done, refused}
-use Rattle.words.specs.Realm.{sameRealm, realmAt}
+use Rattle.words.specs.Realm.{realmAt}
 use Rattle.words.proofs.Tests.{Each}
 use Rattle.list.specs.Fault.{noRecord}
 use Rattle.list.specs.Checking.{Placed, placed, records, checkSays}
 use Rattle.records.specs.declared.records.Record.{Record}
+use Rattle.evaluate.specs.Asking.{ofDefaultRealm}
 use Rattle.evaluate.specs.Steps.{Step, masked, unmasked, here, abroad, steps, serving, servedFrom, served, union, isMask, masking, first}
 use Rattle.evaluate.specs.Evaluation.{unlessRefused, byStep, servedIn, listGives, evaluatedAs, verdictSays}
 use Rattle.evaluate.specs.Tally.{noTally, tallying, allowed, tallyIn, passSays, Passes}
@@ -50,13 +51,19 @@ module _ (home : Bool) (groups : List ℕ) (caller : Caller) (file : File) where
       let p = first (served ts rs .by) in
       rw e (ap (λ (x : ℕ). record { says = done (x ∷ []); start = p .at; size = p .it .size }) (all-allowed rs home groups caller file u))
 
+-- a list does not look at whether a file is a directory
+pub dir-unasked : (list groups : List ℕ) (caller : Caller) (file : File) (dir : Bool)
+    → listGives list groups caller (record { owner = file .owner; group = file .group; dir = dir }) ≡ listGives list groups caller file
+unfolding listGives servedIn steps here abroad
+dir-unasked list groups caller file dir = refl
+
 module _ {l groups : List ℕ} {caller : Caller} {file : File} where
   -- how a pass ends
   pub ends-refused : {number place : ℕ} → checkSays l ≡ refused number (place ∷ []) → Passes l groups caller file (Refused number place)
   unfolding passSays
   ends-refused q = record { check = sym q; tally = λ t e. let z : _≡_ {A = ℕ} 0 1 = cc in absurd (omega arith) }
 
-  pub ends-fine : {t : Tally} (home : Bool) → home ≡ sameRealm (caller .realm) (realmAt 1 l) → checkSays l ≡ done []
+  pub ends-fine : {t : Tally} (home : Bool) → home ≡ ofDefaultRealm caller (realmAt 1 l) → checkSays l ≡ done []
       → t ≡ foldl (tallying (steps home groups caller file)) noTally (records l) → Passes l groups caller file (Fine t)
   unfolding passSays tallyIn
   ends-fine {t = t} home h q e = record { check = sym q; tally = λ u p. let i : t ≡ u = cc in rw (← h) (sym i ∙ e) }
@@ -86,4 +93,4 @@ module _ {l groups : List ℕ} {caller : Caller} {file : File} where
     pub evaluated-fine : {t : Tally} {rights : ℕ} → r ≡ Fine t → rights ≡ allowed t → t .rights < 256
         → evaluatedAs (Rights rights (t .start) (t .size)) ≡ listGives l groups caller file
     unfolding evaluatedAs listGives unlessRefused servedIn tallyIn
-    evaluated-fine {t = t} q a h = rw (fine q, a) (decides (sameRealm (caller .realm) (realmAt 1 l)) groups caller file (records l) t (passes .tally t q) h)
+    evaluated-fine {t = t} q a h = rw (fine q, a) (decides (ofDefaultRealm caller (realmAt 1 l)) groups caller file (records l) t (passes .tally t q) h)

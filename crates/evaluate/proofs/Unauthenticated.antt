@@ -1,5 +1,5 @@
 -- A caller of the unknown realm falls to any_other. Assumes nothing.
-use mathlib.Core.Path.{_≡_, refl, _∙_}
+use mathlib.Core.Path.{_≡_, refl}
 use mathlib.Core.List.{List, [], _∷_}
 use mathlib.Core.Bool.{Bool, false, and-false}
 use Prim.Native.Nat.{ℕ}
@@ -7,7 +7,7 @@ use lib.Dec.{eqb}
 use lib.ListN.{take}
 use Rattle.words.specs.Test.{anyOf, those}
 use Rattle.words.specs.Said.{done}
-use Rattle.words.specs.Realm.{unknownRealm, realmAt, sameRealm}
+use Rattle.words.specs.Realm.{zeroRealm, unknownRealm, realmAt, sameRealm}
 use Rattle.words.specs.declared.realm.Realm.{Realm}
 use Rattle.words.proofs.Tests.{or-left, Each}
 use Rattle.words.proofs.Order.{realms-swapped}
@@ -15,6 +15,7 @@ use Rattle.records.specs.Standing.{isForbidden}
 use Rattle.list.specs.Checking.{Placed, records, checkSays}
 use Rattle.records.specs.declared.records.Record.{Record}
 use Rattle.list.proofs.Passed.{Sound, IsSound, all-sound, default-known}
+use Rattle.evaluate.specs.Asking.{ofDefaultRealm}
 use Rattle.evaluate.specs.Steps.{Step, masked, unmasked, here, abroad, steps, serving, servedFrom}
 use Rattle.evaluate.specs.Evaluation.{servedIn}
 use Rattle.evaluate.specs.declared.asking.Caller.{Caller}
@@ -32,8 +33,9 @@ module _ (list groups : List ℕ) (user group : ℕ) (file : File) (passes : che
   abbrev caller : Caller
   caller = record { realm = unknownRealm; user = user; group = group }
 
-  stranger : sameRealm unknownRealm (realmAt 1 list) ≡ false
-  stranger = realms-swapped unknownRealm (realmAt 1 list) ∙ default-known list passes
+  stranger : ofDefaultRealm caller (realmAt 1 list) ≡ false
+  unfolding ofDefaultRealm sameRealm unknownRealm zeroRealm
+  stranger = rw (realms-swapped unknownRealm (realmAt 1 list), default-known list passes) refl
 
   not-named : (r : Record) → Sound (realmAt 1 list) r → sameRealm (r .realm) unknownRealm ≡ false
   unfolding isForbidden

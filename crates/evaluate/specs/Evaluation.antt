@@ -6,8 +6,9 @@ use lib.Dec.{ltb}
 use lib.ListN.{length}
 use Rattle.words.specs.Test.{if_then_else_}
 use Rattle.words.specs.Said.{Said, done, refused}
-use Rattle.words.specs.Realm.{realmAt, sameRealm}
+use Rattle.words.specs.Realm.{realmAt}
 use Rattle.list.specs.Checking.{Placed, records, checkSays}
+use Rattle.evaluate.specs.Asking.{ofDefaultRealm}
 use Rattle.evaluate.specs.Steps.{steps, Served, served, rightsBy, first}
 use Rattle.evaluate.specs.declared.asking.Caller.{Caller}
 use Rattle.evaluate.specs.declared.asking.File.{File}
@@ -41,7 +42,7 @@ byStep s rs = record { says = done (rightsBy s rs ∷ []); start = first (s .by)
 
 -- the step that decides in a list
 unfoldable pub servedIn : List ℕ → List ℕ → Caller → File → Served
-servedIn list groups caller file = served (steps (sameRealm (caller .realm) (realmAt 1 list)) groups caller file) (records list)
+servedIn list groups caller file = served (steps (ofDefaultRealm caller (realmAt 1 list)) groups caller file) (records list)
 
 -- what a list gives a caller on a file
 unfoldable pub listGives : List ℕ → List ℕ → Caller → File → Decided

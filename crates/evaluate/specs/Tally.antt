@@ -7,9 +7,10 @@ use lib.Bits.{bitAnd, bitOr}
 use lib.Dec.{eqb, ltb}
 use Rattle.words.specs.Test.{if_then_else_}
 use Rattle.words.specs.Said.{Said, done, refused}
-use Rattle.words.specs.Realm.{realmAt, sameRealm}
+use Rattle.words.specs.Realm.{realmAt}
 use Rattle.list.specs.Checking.{Placed, records, checkSays}
 use Rattle.records.specs.declared.records.Record.{Record}
+use Rattle.evaluate.specs.Asking.{ofDefaultRealm}
 use Rattle.evaluate.specs.Steps.{Step, steps, isMask}
 use Rattle.evaluate.specs.declared.asking.Caller.{Caller}
 use Rattle.evaluate.specs.declared.asking.File.{File}
@@ -52,7 +53,7 @@ tallying ts t p = tallied t (stepFrom 1 ts (p .it)) p
 
 -- of all records of a list
 unfoldable pub tallyIn : List ℕ → List ℕ → Caller → File → Tally
-tallyIn list groups caller file = foldl (tallying (steps (sameRealm (caller .realm) (realmAt 1 list)) groups caller file)) noTally (records list)
+tallyIn list groups caller file = foldl (tallying (steps (ofDefaultRealm caller (realmAt 1 list)) groups caller file)) noTally (records list)
 
 unfoldable pub passSays : Passed → Said
 passSays (Refused number place) = refused number (place ∷ [])

@@ -1,6 +1,8 @@
 // Who asks, and of which file.
 use words::Realm;
-ghost use Rattle.evaluate.specs.Asking.{TellsGroup};
+use words::same_realm;
+ghost use mathlib.Core.Path.{_≡_};
+ghost use Rattle.evaluate.specs.Asking.{ofDefaultRealm, TellsGroup};
 
 // A caller; its further groups are lent beside it.
 pub struct Caller {
@@ -13,6 +15,16 @@ pub struct File {
     pub owner: u32,
     pub group: u32,
     pub dir: bool,
+}
+
+// A realm of sixteen zeroes, as jobs started on the server itself have, counts as the default realm.
+pub(crate) fn is_of_default_realm(caller: Caller, default: Realm) -> bool
+    ensures { λ r. ⌜ r ≡ ofDefaultRealm caller default ⌝ }
+{
+    if same_realm(caller.realm, default) {
+        return true;
+    }
+    same_realm(caller.realm, Realm { hi: 0, lo: 0 })
 }
 
 // The caller's primary group, or one of those lent.

@@ -36,7 +36,7 @@ pub fn evaluate(list: &[u8], groups: &[u32], caller: Caller, file: File) -> Eval
             number: TOO_MANY_GROUPS,
         };
     }
-    match pass(list, groups, caller, file) {
+    match pass(list, groups, caller, file.owner, file.group) {
         Passed::Refused { number, place } => Evaluated::RefusedAt {
             number: number,
             place: place,

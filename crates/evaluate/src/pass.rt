@@ -1,12 +1,13 @@
 // The one pass over a list: all of its checks, and what is kept of its records for a caller.
 use crate::asking::Caller;
 use crate::asking::File;
+use crate::asking::is_of_default_realm;
 use crate::steps::step_of;
 use crate::tally::Tally;
 use crate::tally::no_tally;
 use list::Step;
 use list::Walk;
-use words::same_realm;
+ghost use mathlib.Core.Bool.{false};
 ghost use Rattle.evaluate.specs.Tally.{Passes};
 
 pub enum Passed {
@@ -14,11 +15,17 @@ pub enum Passed {
     Fine(Tally),
 }
 
-pub(crate) fn pass(list: &[u8], groups: &[u32], caller: Caller, file: File) -> Passed
-    ensures { λ r. ⌜ Passes (now (list .entry)) (now (groups .entry)) caller file r ⌝ }
+// The file is told by its owner and group: a list looks at no more of it, and two numbers cost less than a struct.
+pub(crate) fn pass(list: &[u8], groups: &[u32], caller: Caller, owner: u32, group: u32) -> Passed
+    ensures { λ r. ⌜ Passes (now (list .entry)) (now (groups .entry)) caller (record { owner = owner; group = group; dir = false }) r ⌝ }
 {
+    let file = File {
+        owner: owner,
+        group: group,
+        dir: false,
+    };
     let mut walk = Walk::start(list);
-    let home = same_realm(caller.realm, walk.home);
+    let home = is_of_default_realm(caller, walk.home);
     let mut tally = no_tally();
     loop {
         let at = walk.at;

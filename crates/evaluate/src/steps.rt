@@ -16,6 +16,7 @@ use words::same_realm;
 ghost use mathlib.Core.Path.{_≡_};
 ghost use mathlib.Core.Bool.{true, false};
 ghost use Prim.Native.Nat.{_<_};
+ghost use lib.Dec.{eqb};
 ghost use Rattle.words.specs.Test.{if_then_else_};
 ghost use Rattle.evaluate.specs.Steps.{steps};
 ghost use Rattle.evaluate.specs.Tally.{stepFrom};
@@ -34,6 +35,12 @@ fn when(test: bool, step: u8) -> u8
     NONE
 }
 
+fn is_owner(caller: Caller, file: File) -> bool
+    ensures { λ r. ⌜ r ≡ eqb (caller .user) (file .owner) ⌝ }
+{
+    caller.user == file.owner
+}
+
 // For a caller of the default realm: the kinds before user.
 fn step_by_object(groups: &[u32], caller: Caller, file: File, r: Record) -> u8
     requires { ⌜ r .kind < 7 ⌝ }
@@ -41,7 +48,7 @@ fn step_by_object(groups: &[u32], caller: Caller, file: File, r: Record) -> u8
 {
     let kind = r.kind;
     if kind == USER_OBJ {
-        return when(caller.user == file.owner, 1);
+        return when(is_owner(caller, file), 1);
     }
     if kind == GROUP_OBJ {
         return when(is_in_group(caller, groups, file.group), 3);

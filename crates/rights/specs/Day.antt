@@ -2,10 +2,10 @@
 use mathlib.Core.List.{List, [], _∷_, _++_}
 use mathlib.Core.Bool.{true, false}
 use Prim.Native.Nat.{ℕ}
-use lib.ListN.{take, replicate}
+use lib.ListN.{take, drop, replicate}
 use Rattle.words.specs.Said.{Said, done, refused}
 use Rattle.words.specs.Lines.{Line, line}
-use Rattle.words.specs.Realm.{unknownRealm}
+use Rattle.words.specs.Realm.{zeroRealm, unknownRealm}
 use Rattle.words.specs.declared.realm.Realm.{Realm}
 use Rattle.list.specs.Day.{realmR, realmS, headerR, listE, day as listDay}
 use Rattle.evaluate.specs.Evaluation.{Decided}
@@ -48,19 +48,19 @@ byMode file mode groups c = decided [] groups c file (Mode realmR mode)
 unfoldable pub grouped : List ℕ
 grouped = headerR ++ (2 ∷ 15 ∷ 3 ∷ 1 ∷ 4 ∷ 0 ∷ 5 ∷ 7 ∷ 8 ∷ 0 ∷ 0 ∷ 0 ∷ 6 ∷ 18 ∷ 8 ∷ 0 ∷ 0 ∷ 0 ∷ 7 ∷ 4 ∷ [])
 
--- with a mask of 5 any_other, and of realm S user 7, groups 6 and 7, and all others
-unfoldable pub foreign : List ℕ
-foreign =
+-- with a mask of 5 any_other, and of the realm of sixteen such bytes user 7, groups 6 and 7, and all others
+unfoldable pub foreign : ℕ → List ℕ
+foreign byte =
     headerR
     ++ (2 ∷ 15 ∷ 3 ∷ 7 ∷ 4 ∷ 7 ∷ 5 ∷ 5 ∷ 6 ∷ 6 ∷ [])
     ++ (9 ∷ [])
-    ++ replicate 16 18
+    ++ replicate 16 byte
     ++ (0 ∷ 0 ∷ 0 ∷ 7 ∷ 3 ∷ 10 ∷ [])
-    ++ replicate 16 18
+    ++ replicate 16 byte
     ++ (0 ∷ 0 ∷ 0 ∷ 6 ∷ 1 ∷ 10 ∷ [])
-    ++ replicate 16 18
+    ++ replicate 16 byte
     ++ (0 ∷ 0 ∷ 0 ∷ 7 ∷ 6 ∷ 11 ∷ [])
-    ++ replicate 16 18
+    ++ replicate 16 byte
     ++ (7 ∷ [])
 
 -- the lines marked * in 01
@@ -103,14 +103,14 @@ ours =
     ∷ gives 6 25 6 (by grouped (7 ∷ 6 ∷ []) (caller realmR 8 0))
     ∷ gives 4 31 6 (by grouped [] (caller realmR 8 7))
     -- realm S: its user, its groups, its others
-    ∷ gives 1 27 22 (by foreign (6 ∷ []) (caller realmS 7 0))
-    ∷ gives 5 49 22 (by foreign (6 ∷ 7 ∷ []) (caller realmS 8 0))
-    ∷ gives 5 93 18 (by foreign [] (caller realmS 8 0))
+    ∷ gives 1 27 22 (by (foreign 18) (6 ∷ []) (caller realmS 7 0))
+    ∷ gives 5 49 22 (by (foreign 18) (6 ∷ 7 ∷ []) (caller realmS 8 0))
+    ∷ gives 5 93 18 (by (foreign 18) [] (caller realmS 8 0))
     -- the default realm is not served by records of realm S, nor is user 7 of a third realm
-    ∷ gives 7 21 2 (by foreign (6 ∷ []) (caller realmR 7 0))
-    ∷ gives 4 25 2 (by foreign (6 ∷ []) (caller (record { hi = 0; lo = 7 }) 7 0))
+    ∷ gives 7 21 2 (by (foreign 18) (6 ∷ []) (caller realmR 7 0))
+    ∷ gives 4 25 2 (by (foreign 18) (6 ∷ []) (caller (record { hi = 0; lo = 7 }) 7 0))
     -- an unauthenticated caller, with any_other and without
-    ∷ gives 4 25 2 (by foreign [] nobody)
+    ∷ gives 4 25 2 (by (foreign 18) [] nobody)
     ∷ gives 0 0 0 (by listE [] nobody)
     -- 32 groups and 33, before the list is looked at
     ∷ gives 1 19 2 (by listE (replicate 32 4) (caller realmR 8 0))
@@ -130,6 +130,41 @@ ours =
     ∷ gives 50 0 0 (byMode theDirectory 18 [] (caller realmR 8 0))
     ∷ []
 
+-- E with the zero realm as the default realm
+unfoldable pub zeroE : List ℕ
+zeroE = (1 ∷ []) ++ replicate 16 0 ++ drop 17 listE
+
+-- callers of the zero realm (02, §2)
+unfoldable pub local : List Line
+local =
+    -- by E as users of R: the owner, user 7, user 8 with group 4, primary or further, and without
+    gives 15 17 2 (by listE [] (caller zeroRealm 9 0))
+    ∷ gives 3 25 6 (by listE [] (caller zeroRealm 7 0))
+    ∷ gives 1 19 2 (by listE [] (caller zeroRealm 8 4))
+    ∷ gives 1 19 2 (by listE (4 ∷ []) (caller zeroRealm 8 0))
+    ∷ gives 4 21 2 (by listE [] (caller zeroRealm 8 0))
+    -- by group records, and by other_obj before any_other
+    ∷ gives 6 25 6 (by grouped (7 ∷ 6 ∷ []) (caller zeroRealm 8 0))
+    ∷ gives 7 21 2 (by (foreign 18) [] (caller zeroRealm 8 0))
+    -- half zero is another realm
+    ∷ gives 0 0 0 (by listE [] (caller (record { hi = 0; lo = 1 }) 9 4))
+    ∷ gives 0 0 0 (by listE [] (caller (record { hi = 1; lo = 0 }) 9 4))
+    -- foreign records of the zero realm stand, and serve neither its callers nor others
+    ∷ gives 7 21 2 (by (foreign 0) (6 ∷ []) (caller zeroRealm 7 0))
+    ∷ gives 4 25 2 (by (foreign 0) (6 ∷ []) (caller realmS 7 0))
+    -- where it is the default realm it is so for no other, and a foreign record that names it is forbidden
+    ∷ gives 15 17 2 (by zeroE [] (caller zeroRealm 9 0))
+    ∷ gives 0 0 0 (by zeroE [] (caller realmR 9 0))
+    ∷ refusing 16 (31 ∷ []) (by (zeroE ++ drop 27 (foreign 0)) [] (caller zeroRealm 9 0))
+    -- the list's refusals and 23 as for anyone
+    ∷ refusing 13 (25 ∷ []) (by (take 30 listE) [] (caller zeroRealm 9 0))
+    ∷ refusing 23 [] (by listE (replicate 33 4) (caller zeroRealm 9 0))
+    -- by a mode a realm like any other: nothing where the local realm is another, all that its user has where it is that one
+    ∷ gives 0 0 0 (byMode theFile 511 [] (caller zeroRealm 9 4))
+    ∷ gives 15 0 0 (decided [] [] (caller zeroRealm 9 0) theFile (Mode zeroRealm 511))
+    ∷ gives 0 0 0 (decided [] [] (caller realmR 9 0) theFile (Mode zeroRealm 511))
+    ∷ []
+
 -- with the lists' own lines
 unfoldable pub day : List Line
-day = listDay ++ (starred ++ (others ++ ours))
+day = listDay ++ (starred ++ (others ++ (ours ++ local)))

@@ -8,6 +8,7 @@ use evaluate::is_in_group;
 use words::Realm;
 use words::same_realm;
 ghost use mathlib.Core.Path.{_≡_};
+ghost use Rattle.words.specs.Realm.{sameRealm};
 ghost use Rattle.rights.specs.Mode.{digitRights, classRights, withWrite, modeRights};
 
 // In an octal digit 4 is read, 2 write, 1 execute.
@@ -40,10 +41,17 @@ fn with_write(dir: bool, rights: u8) -> u8
     rights
 }
 
+// Sixteen zeroes are a realm like any other here.
+fn is_local(caller: Caller, local: Realm) -> bool
+    ensures { λ r. ⌜ r ≡ sameRealm (caller .realm) local ⌝ }
+{
+    same_realm(caller.realm, local)
+}
+
 pub(crate) fn mode_rights(groups: &[u32], caller: Caller, file: File, local: Realm, mode: u32) -> u8
     ensures { λ r. ⌜ r ≡ modeRights (now (groups .entry)) caller file local mode ⌝ }
 {
-    if !same_realm(caller.realm, local) {
+    if !is_local(caller, local) {
         return 0;
     }
     with_write(file.dir, class_rights(groups, caller, file, mode))

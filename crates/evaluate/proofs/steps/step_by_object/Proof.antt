@@ -10,7 +10,8 @@ step-by-object-spec =
     tie.close
     (tie.spec
     (λ c κs. search needs)
-    (λ c. c .when .ensures ∙ here-user-obj (c .before .before .before .before .before .args .groups .now) (c .before .before .before .before .before .args .caller) (c .before .before .before .before .before .args .file) (c .before .before .before .before .before .args .r) (c .before .before .before .if1 .taken))
+    (λ c κs. search needs)
+    (λ c. c .when .ensures ∙ rw (c .before .is-owner .ensures) (here-user-obj (c .before .before .before .before .args .groups .now) (c .before .before .before .before .args .caller) (c .before .before .before .before .args .file) (c .before .before .before .before .args .r) (c .before .before .if1 .taken)))
     (λ c κs. search needs)
     (λ c κs. search needs)
     (λ c. c .when2 .ensures ∙ rw (c .before .is-in-group .ensures .answer) (here-group-obj (c .before .before .before .before .before .args .groups .now) (c .before .before .before .before .before .args .caller) (c .before .before .before .before .before .args .file) (c .before .before .before .before .before .args .r) (c .before .before .if2 .taken)))

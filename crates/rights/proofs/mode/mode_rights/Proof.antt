@@ -10,10 +10,10 @@ mode-rights-spec =
     tie.close
     (tie.spec
     (λ c κs. search needs)
-    (λ c. let p = c .before .before .before .args in another-realm (p .groups .now) (p .caller) (p .file) (p .local) (p .mode) (sym (c .before .same-realm .ensures .answer) ∙ not-true (c .before .same-realm .result) (c .if1 .taken)))
+    (λ c. let p = c .before .before .before .args in another-realm (p .groups .now) (p .caller) (p .file) (p .local) (p .mode) (sym (c .before .is-local .ensures) ∙ not-true (c .before .is-local .result) (c .if1 .taken)))
     (λ c κs. search needs)
     (λ c κs. search needs)
     (λ c.
     let p = c .before .before .before .before .before .args in
-    let same = c .before .before .before .same-realm in
-    c .with-write .ensures ∙ rw (c .before .class-rights .ensures) (local-realm (p .groups .now) (p .caller) (p .file) (p .local) (p .mode) (sym (same .ensures .answer) ∙ not-false (same .result) (c .before .before .if1 .left)))))
+    let same = c .before .before .before .is-local in
+    c .with-write .ensures ∙ rw (c .before .class-rights .ensures) (local-realm (p .groups .now) (p .caller) (p .file) (p .local) (p .mode) (sym (same .ensures) ∙ not-false (same .result) (c .before .before .if1 .left)))))
