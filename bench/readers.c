@@ -160,6 +160,9 @@ void compare_fixed(void)
     const mastarik_caller anonymous = MASTARIK_ANONYMOUS;
     mastarik_answer named = mastarik_new_list(anonymous.realm, 63, 63, 63, spelled.out, sizeof spelled.out);
     expect(named.refused == MASTARIK_FORBIDDEN_REALM, "the unknown realm is another", &spelled);
+    const uint8_t zero_realm[16] = MASTARIK_ZERO_REALM;
+    for (size_t i = 0; i < sizeof zero_realm; i++)
+        expect(zero_realm[i] == 0, "the zero realm is another", &spelled);
     expect(anonymous.user == UINT32_MAX - 1 && anonymous.group == UINT32_MAX - 1, "the unknown id is another",
            &spelled);
     const mastarik_claim claim = {.types = MASTARIK_DATA_READ, .host = 1};

@@ -31,12 +31,15 @@ struct station {
 
 typedef mastarik_answer edit_call(const uint8_t *, size_t, mastarik_entry, uint8_t *, size_t);
 
-/* The mill is in group 4 by its further groups; the visiting designer has the crown desk's number in another realm. */
+/* The mill is in group 4 by its further groups; the visiting designer has the crown desk's number in another realm; the
+ * copying job is started on the server itself.
+ */
 static const struct station design_station = {"design station", 1, {{LAB}, 7, 6}, {0}, 0};
 static const struct station mill = {"mill", 2, {{LAB}, 8, 6}, {4}, 1};
 static const struct station crown_desk = {"crown desk", 3, {{LAB}, 9, 4}, {0}, 0};
 static const struct station visitor = {"visiting designer", 4, {{ELSEWHERE}, 9, 6}, {0}, 0};
-static const struct station *const stations[] = {&design_station, &mill, &crown_desk, &visitor};
+static const struct station copying_job = {"copying job", 5, {MASTARIK_ZERO_REALM, 8, 4}, {0}, 0};
+static const struct station *const stations[] = {&design_station, &mill, &crown_desk, &visitor, &copying_job};
 
 /* Every case is the crown desk's, owner 9 and group 4, and one list guards them all, this one once it is built. */
 static const mastarik_file case_file = {.owner = 9, .group = 4};
@@ -342,6 +345,17 @@ static void let_the_visitor_write(mastarik_claim design)
     grant(&visitor, design, 0);
 }
 
+/* The zero realm counts as the lab's, so group_obj serves the job, which is in group 4. */
+static void copy_the_case(void)
+{
+    show_rights("17:30", &copying_job, MASTARIK_READ);
+    printf("17:31  The copying job reads the crown's design: ");
+    mastarik_claim design = claim_of(&copying_job, MASTARIK_DATA_READ, CROWN, 0, DESIGN_LAST);
+    uint64_t token = grant(&copying_job, design, 0);
+    printf("17:40  It returns token %" PRIu64 ": ", token);
+    give_back(&copying_job, token, MASTARIK_DATA_READ, 0);
+}
+
 int main(void)
 {
     mastarik_claim redesign = claim_of(&visitor, MASTARIK_DATA_WRITE, CROWN, 0, DESIGN_LAST);
@@ -357,6 +371,7 @@ int main(void)
     edit(mastarik_easy_drop_entry, MASTARIK_FOREIGN_USER, 9, 0, 0);
     expect_case_list();
     switch_off("17:00", &visitor, 1);
+    copy_the_case();
     expect("audit", mastarik_easy_audit(table, sizeof table).value, 1);
     printf("18:00  Audit says yes.\n");
     return 0;

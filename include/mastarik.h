@@ -43,12 +43,12 @@
 extern "C" {
 #endif
 
-/* The version of this header, as a number (10100 for 1.1.0) and as text. */
-#define MASTARIK_VERSION_MAJOR 1
-#define MASTARIK_VERSION_MINOR 1
+/* The version of this header, as a number (20000 for 2.0.0) and as text. */
+#define MASTARIK_VERSION_MAJOR 2
+#define MASTARIK_VERSION_MINOR 0
 #define MASTARIK_VERSION_PATCH 0
 #define MASTARIK_VERSION (10000 * MASTARIK_VERSION_MAJOR + 100 * MASTARIK_VERSION_MINOR + MASTARIK_VERSION_PATCH)
-#define MASTARIK_VERSION_TEXT "1.1.0"
+#define MASTARIK_VERSION_TEXT "2.0.0"
 
 /* The refusals. 10 to 19 come with a place: the record's first byte, the list's length for 17 to 19, 0 for 10 and 11,
  * for an edit's kind and for an unknown local realm. 35 comes with the true count of tokens. */
@@ -122,12 +122,16 @@ enum { MASTARIK_LIST_LIMIT = 4096, MASTARIK_NEW_LIST_SIZE = 23, MASTARIK_GROUP_L
  * MASTARIK_CALL_BACK_SIZE bytes for each token that it lists; n times that is always enough. */
 enum { MASTARIK_SLOT_SIZE = 41, MASTARIK_SLOT_LIMIT = 1024, MASTARIK_CALL_BACK_SIZE = 13 };
 
-/* Initialisers: the realm and the id of nobody, and the caller whom nobody has authenticated. A server hands over this
- * one, not zeroes, which may be somebody's. By a list only any_other serves it, as no list can name it; by a mode it
- * gets nothing. */
+/* Initialisers: the realm and the id of nobody, and the caller whom nobody has authenticated. By a list only any_other
+ * serves it, as no list can name it; by a mode it gets nothing. A server hands over this one, never zeroes, which are
+ * user 0 of the server itself. */
 #define MASTARIK_UNKNOWN_REALM {255, 255, 255, 254, 0, 0, 0, 0, 0, 0, 0, 0, 0, 0, 0, 0}
 #define MASTARIK_UNKNOWN_ID 4294967294u
 #define MASTARIK_ANONYMOUS {MASTARIK_UNKNOWN_REALM, MASTARIK_UNKNOWN_ID, MASTARIK_UNKNOWN_ID}
+
+/* The realm of jobs started on the server itself. By a list its callers count as of the list's default realm, owner and
+ * users and groups alike, and a foreign record that names it serves nobody; by a mode it is a realm like any other. */
+#define MASTARIK_ZERO_REALM {0, 0, 0, 0, 0, 0, 0, 0, 0, 0, 0, 0, 0, 0, 0, 0}
 
 /* What a call answers; a field that a call does not use is 0. */
 typedef struct mastarik_answer {

@@ -4,7 +4,6 @@ use crate::entries::id_length;
 use crate::entries::realm_length;
 use crate::entries::record_of;
 use list::Record;
-use list::in_order;
 use list::kind::MASK_OBJ;
 use words::Realm;
 use words::number32;
@@ -17,6 +16,7 @@ ghost use lib.ListN.{length, getD};
 ghost use Rattle.words.specs.Said.{done};
 ghost use Rattle.records.specs.Kind.{size};
 ghost use Rattle.records.specs.Reading.{recordOf};
+ghost use Rattle.records.specs.Standing.{rises};
 ghost use Rattle.list.specs.Checking.{checkSays};
 ghost use Rattle.entry.specs.Entry.{isEntry};
 ghost use Rattle.entry.specs.Plan.{spotFor};
@@ -61,6 +61,22 @@ fn size_of(kind: u8) -> usize
     2 + realm_length(kind) + id_length(kind)
 }
 
+// Of two records of one kind, by realm and then by id. That kind is never 1, so nothing more is asked of it.
+fn is_before(q: Record, r: Record) -> bool
+    requires { ⌜ (q .kind ≡ r .kind) × (1 < r .kind) ⌝ }
+    ensures { λ b. ⌜ b ≡ rises q r ⌝ }
+{
+    let a = q.realm;
+    let b = r.realm;
+    if a.hi != b.hi {
+        return a.hi < b.hi;
+    }
+    if a.lo != b.lo {
+        return a.lo < b.lo;
+    }
+    q.id < r.id
+}
+
 // Where the record that a tail begins with stands by r. Where the kinds differ they tell, and no more is read.
 fn side_of(tail: &[u8], r: Record) -> Side
     requires { ⌜ (isEntry (getD (now tail) 0 0) ≡ true) × (size (getD (now tail) 0 0) ≤ length (now tail)) ⌝ }
@@ -74,10 +90,10 @@ fn side_of(tail: &[u8], r: Record) -> Side
         return Side::After;
     }
     let q = head_of(tail);
-    if in_order(q, r) {
+    if is_before(q, r) {
         return Side::Before;
     }
-    if in_order(r, q) {
+    if is_before(r, q) {
         return Side::After;
     }
     Side::Same

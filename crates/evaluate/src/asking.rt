@@ -21,10 +21,10 @@ pub struct File {
 pub(crate) fn is_of_default_realm(caller: Caller, default: Realm) -> bool
     ensures { λ r. ⌜ r ≡ ofDefaultRealm caller default ⌝ }
 {
-    if same_realm(caller.realm, default) {
+    if same_realm(caller.realm, Realm { hi: 0, lo: 0 }) {
         return true;
     }
-    same_realm(caller.realm, Realm { hi: 0, lo: 0 })
+    same_realm(caller.realm, default)
 }
 
 // The caller's primary group, or one of those lent.

@@ -1,4 +1,5 @@
 use mathlib.Core.Path.{refl}
+use mathlib.Core.Bool.{or-true, or-false}
 use borrow.Author.Needs.{needs}
 use Rattle.words.specs.Realm.{zeroRealm}
 use Rattle.evaluate.specs.Asking.{ofDefaultRealm}
@@ -11,6 +12,6 @@ is-of-default-realm-spec =
     tie.close
     (tie.spec
     (λ c κs. search needs)
-    (λ c. rw (← c .before .same-realm .ensures .answer, c .if1 .taken) refl)
+    (λ c. rw (← c .before .same-realm .ensures .answer, c .if1 .taken, or-true) refl)
     (λ c κs. search needs)
-    (λ c. rw (← c .before .before .same-realm .ensures .answer, c .before .if1 .left) (c .same-realm2 .ensures .answer)))
+    (λ c. rw (← c .before .before .same-realm .ensures .answer, c .before .if1 .left, or-false) (c .same-realm2 .ensures .answer)))
