@@ -1,10 +1,9 @@
 -- Callers and records of the zero realm. Assumes nothing.
 use mathlib.Core.Path.{_≡_, refl, sym, _∙_, ap}
 use mathlib.Core.List.{List}
-use mathlib.Core.Bool.{Bool, true, false, not, _||_, _&&_, and-false, or-true}
+use mathlib.Core.Bool.{Bool, true, false, not, _||_, _&&_, and-false, or-true, or-false}
 use mathlib.Core.Logic.{inl}
-use Prim.Native.Nat.{ℕ, _<_}
-use native.Mathlib.Omega.{arith}
+use Prim.Native.Nat.{ℕ}
 use borrow.Author.Tests.{eq-eqb, ne-eqb}
 use lib.Dec.{eqb}
 use Rattle.words.specs.Realm.{zeroRealm, unknownRealm, realmAt, sameRealm}
@@ -16,11 +15,21 @@ use Rattle.records.specs.Standing.{isForbidden}
 use Rattle.records.specs.declared.records.Record.{Record}
 use Rattle.evaluate.specs.Asking.{ofDefaultRealm, inGroup}
 use Rattle.evaluate.specs.Steps.{masked, unmasked, here, abroad, steps}
-use Rattle.evaluate.specs.Evaluation.{listGives, evaluation}
+use Rattle.evaluate.specs.Evaluation.{evaluation}
 use Rattle.evaluate.specs.declared.asking.Caller.{Caller}
 use Rattle.evaluate.specs.declared.asking.File.{File}
 use Rattle.evaluate.proofs.Counting.{Untaken}
-use Rattle.evaluate.proofs.Alike.{OneRealm, gives-alike, alike}
+use Rattle.evaluate.proofs.Alike.{OneRealm, alike}
+
+-- of which realm a caller is, by what was tested
+module _ (caller : Caller) (default : Realm) {zero : Bool} (told : zero ≡ sameRealm (caller .realm) zeroRealm) where
+  pub zero-counts : zero ≡ true → true ≡ ofDefaultRealm caller default
+  unfolding ofDefaultRealm
+  zero-counts q = rw (sym told ∙ q, or-true) refl
+
+  pub default-counts : zero ≡ false → {same : Bool} → same ≡ sameRealm (caller .realm) default → same ≡ ofDefaultRealm caller default
+  unfolding ofDefaultRealm
+  default-counts q same = rw (sym told ∙ q, or-false) same
 
 abbrev pub of : Realm → ℕ → ℕ → Caller
 of realm user group = record { realm = realm; user = user; group = group }

@@ -1,5 +1,5 @@
 -- Callers of the zero realm: by a list they are of its default realm, by a mode their realm is like any other. Assumes nothing.
-use mathlib.Core.Path.{_≡_, refl, sym, subst}
+use mathlib.Core.Path.{_≡_, refl, subst}
 use mathlib.Core.List.{List}
 use Prim.Native.Nat.{ℕ}
 use denote.Ref.{RefT, now, ptr}

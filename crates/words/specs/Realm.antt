@@ -8,7 +8,7 @@ use Rattle.words.specs.Number.{number, part, within, less}
 use Rattle.words.specs.Writing.{digits, written}
 use Rattle.words.specs.declared.realm.Realm.{Realm}
 
--- sixteen zeroes: what stands for the realm where there is none
+-- sixteen zeroes: the realm of jobs started on the server itself, and what stands for the realm where there is none
 unfoldable pub zeroRealm : Realm
 zeroRealm = record { hi = 0; lo = 0 }
 
