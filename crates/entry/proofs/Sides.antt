@@ -4,16 +4,14 @@ use mathlib.Core.List.{List}
 use mathlib.Core.Bool.{Bool, true, false}
 use Prim.Native.Nat.{ℕ, _≤_, _<_}
 use native.Mathlib.Omega.{arith}
-use borrow.Author.Tests.{leb-true, lt-ltb, ne-eqb}
-use lib.Dec.{ltb}
+use borrow.Author.Tests.{leb-true, lt-ltb}
 use lib.ListN.{getD}
 use Rattle.words.specs.Test.{if_then_else_}
-use Rattle.words.specs.Realm.{lessRealm}
 use Rattle.words.proofs.Tests.{and-left}
-use Rattle.words.proofs.Order.{apart, tied}
 use Rattle.records.specs.Reading.{recordOf}
-use Rattle.records.specs.Standing.{rises}
+use Rattle.records.specs.Standing.{bodyRises, rises}
 use Rattle.records.specs.declared.records.Record.{Record}
+use Rattle.records.proofs.Rising.{by-body}
 use Rattle.records.proofs.Ordered.{rises-asym}
 use Rattle.entry.specs.Entry.{isEntry}
 use Rattle.entry.specs.Spot.{sideOf}
@@ -25,33 +23,31 @@ kinds-tell : (a b : Record) → a .kind < b .kind → rises a b ≡ true
 unfolding rises
 kinds-tell a b h = rw (lt-ltb (a .kind) (b .kind) h) refl
 
--- of one kind, which is not 1: by realm, then by id
-module _ (q r : Record) (kind : q .kind ≡ r .kind) (entry : 1 < r .kind) where
-  by-body : rises q r ≡ lessRealm (q .realm) (r .realm) (ltb (q .id) (r .id))
-  unfolding rises
-  by-body = tied (q .kind) (r .kind) _ kind ∙ rw (ne-eqb (r .kind) 1 (λ e. omega arith)) refl
-
-  pub by-hi : (q .realm .hi ≡ r .realm .hi → ⊥) → ltb (q .realm .hi) (r .realm .hi) ≡ rises q r
-  unfolding lessRealm
-  by-hi differ = sym (by-body ∙ apart _ _ _ differ)
-
-  module _ (hi : q .realm .hi ≡ r .realm .hi) where
-    pub by-lo : (q .realm .lo ≡ r .realm .lo → ⊥) → ltb (q .realm .lo) (r .realm .lo) ≡ rises q r
-    unfolding lessRealm
-    by-lo differ = sym (by-body ∙ tied _ _ _ hi ∙ apart _ _ _ differ)
-
-    pub by-id : q .realm .lo ≡ r .realm .lo → ltb (q .id) (r .id) ≡ rises q r
-    unfolding lessRealm
-    by-id lo = sym (by-body ∙ tied _ _ _ hi ∙ tied _ _ _ lo)
-
--- the record that a tail begins with is of r's kind where it is of no lower and of no higher one
+-- where the record that a tail begins with is of no lower and of no higher kind than r, the bodies tell
 module _ (t : List ℕ) (q r : Record) (head : q ≡ recordOf (getD t 0 0) t) (entry : isEntry (getD t 0 0) ≡ true) (low : r .kind ≤ getD t 0 0) (high : getD t 0 0 ≤ r .kind) where
-  pub one-kind : (q .kind ≡ r .kind) × (1 < r .kind)
+  one-kind : (q .kind ≡ r .kind) × (1 < r .kind)
   unfolding recordOf isEntry
   one-kind = let two = leb-true 2 (getD t 0 0) (and-left _ _ entry) in (rw head (omega arith), omega arith)
 
-  pub one-kind-back : (r .kind ≡ q .kind) × (1 < q .kind)
-  one-kind-back = let one = one-kind in (sym (one .0), omega (arith, one .0, one .1))
+  rising : {b : Bool} → b ≡ bodyRises q r → b ≡ rises q r
+  rising told = let one = one-kind in by-body q r (one .0) (λ e. omega (arith, one .1)) told
+
+  falling : {b : Bool} → b ≡ bodyRises r q → b ≡ rises r q
+  falling told = let one = one-kind in by-body r q (sym (one .0)) (λ e. omega (arith, one .0, one .1)) told
+
+  module _ {b : Bool} (told : b ≡ bodyRises q r) where
+    pub is-before : b ≡ true → Before ≡ sideOf (recordOf (getD t 0 0) t) r
+    unfolding sideOf
+    is-before b = rw (← head, sym (rising told) ∙ b) refl
+
+    module _ (stays : b ≡ false) {c : Bool} (back : c ≡ bodyRises r q) where
+      pub is-after : c ≡ true → After ≡ sideOf (recordOf (getD t 0 0) t) r
+      unfolding sideOf
+      is-after c = rw (← head, sym (rising told) ∙ stays, sym (falling back) ∙ c) refl
+
+      pub is-same : c ≡ false → Same ≡ sideOf (recordOf (getD t 0 0) t) r
+      unfolding sideOf
+      is-same c = rw (← head, sym (rising told) ∙ stays, sym (falling back) ∙ c) refl
 
 module _ (q r : Record) where
   pub lower-kind : q .kind < r .kind → Before ≡ sideOf q r
@@ -61,20 +57,6 @@ module _ (q r : Record) where
   pub higher-kind : r .kind < q .kind → After ≡ sideOf q r
   unfolding sideOf
   higher-kind h = let p = kinds-tell r q h in rw (p, rises-asym r q p) refl
-
-  module _ {b : Bool} (told : b ≡ rises q r) where
-    pub is-before : b ≡ true → Before ≡ sideOf q r
-    unfolding sideOf
-    is-before t = rw (sym told ∙ t) refl
-
-    module _ (stays : b ≡ false) {c : Bool} (back : c ≡ rises r q) where
-      pub is-after : c ≡ true → After ≡ sideOf q r
-      unfolding sideOf
-      is-after t = rw (sym told ∙ stays, sym back ∙ t) refl
-
-      pub is-same : c ≡ false → Same ≡ sideOf q r
-      unfolding sideOf
-      is-same t = rw (sym told ∙ stays, sym back ∙ t) refl
 
   -- what a side says
   module _ {side : Side} (told : side ≡ sideOf q r) where

@@ -4,6 +4,7 @@ use crate::entries::id_length;
 use crate::entries::realm_length;
 use crate::entries::record_of;
 use list::Record;
+use list::bodies_in_order;
 use list::kind::MASK_OBJ;
 use words::Realm;
 use words::number32;
@@ -16,7 +17,6 @@ ghost use lib.ListN.{length, getD};
 ghost use Rattle.words.specs.Said.{done};
 ghost use Rattle.records.specs.Kind.{size};
 ghost use Rattle.records.specs.Reading.{recordOf};
-ghost use Rattle.records.specs.Standing.{rises};
 ghost use Rattle.list.specs.Checking.{checkSays};
 ghost use Rattle.entry.specs.Entry.{isEntry};
 ghost use Rattle.entry.specs.Plan.{spotFor};
@@ -61,23 +61,8 @@ fn size_of(kind: u8) -> usize
     2 + realm_length(kind) + id_length(kind)
 }
 
-// Of two records of one kind, by realm and then by id. That kind is never 1, so nothing more is asked of it.
-fn is_before(q: Record, r: Record) -> bool
-    requires { ⌜ (q .kind ≡ r .kind) × (1 < r .kind) ⌝ }
-    ensures { λ b. ⌜ b ≡ rises q r ⌝ }
-{
-    let a = q.realm;
-    let b = r.realm;
-    if a.hi != b.hi {
-        return a.hi < b.hi;
-    }
-    if a.lo != b.lo {
-        return a.lo < b.lo;
-    }
-    q.id < r.id
-}
-
-// Where the record that a tail begins with stands by r. Where the kinds differ they tell, and no more is read.
+// Where the record that a tail begins with stands by r. Where the kinds differ they tell, and no more is read; else the bodies tell,
+// since no entry is of kind 1.
 fn side_of(tail: &[u8], r: Record) -> Side
     requires { ⌜ (isEntry (getD (now tail) 0 0) ≡ true) × (size (getD (now tail) 0 0) ≤ length (now tail)) ⌝ }
     ensures { λ s. ⌜ s ≡ sideOf (recordOf (getD (now (tail .entry)) 0 0) (now (tail .entry))) r ⌝ }
@@ -90,10 +75,10 @@ fn side_of(tail: &[u8], r: Record) -> Side
         return Side::After;
     }
     let q = head_of(tail);
-    if is_before(q, r) {
+    if bodies_in_order(q, r) {
         return Side::Before;
     }
-    if is_before(r, q) {
+    if bodies_in_order(r, q) {
         return Side::After;
     }
     Side::Same

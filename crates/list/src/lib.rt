@@ -5,6 +5,7 @@ mod walk;
 
 pub use records::Read;
 pub use records::Record;
+pub use records::bodies_in_order;
 pub use records::in_order;
 pub use records::is_forbidden;
 pub use records::kind;

@@ -10,7 +10,7 @@ use Rattle.words.specs.Said.{Said, done, refused}
 use Rattle.words.specs.declared.realm.Realm.{Realm}
 use Rattle.words.proofs.Determined.{same-answer}
 use Rattle.records.specs.Reading.{readOf, recordValues, readSays, ReadsRecord}
-use Rattle.records.specs.Standing.{TellsOrder, TellsForbidden, TellsPowerless}
+use Rattle.records.specs.Standing.{TellsBodies, TellsOrder, TellsForbidden, TellsPowerless}
 use Rattle.records.specs.declared.records.Record.{Record}
 use Rattle.records.specs.declared.records.Read.{Read}
 use Rattle.records.specs.declared.records.Read.the-variants.{Nothing, Unknown, Short, Whole}
@@ -44,6 +44,9 @@ read-record-determined tail r r′ p q = same-answer readSays reading reading-of
 -- so a reading is what the tail is read as
 pub read-is : {tail : List ℕ} {r : Read} → ReadsRecord tail r → r ≡ readOf tail
 read-is {tail = tail} {r = r} p = read-record-determined tail r (readOf tail) p (record { answer = refl })
+
+pub bodies-in-order-determined : (earlier r : Record) (b b′ : Bool) → TellsBodies earlier r b → TellsBodies earlier r b′ → b ≡ b′
+bodies-in-order-determined earlier r b b′ p q = p .answer ∙ sym (q .answer)
 
 pub in-order-determined : (earlier r : Record) (b b′ : Bool) → TellsOrder earlier r b → TellsOrder earlier r b′ → b ≡ b′
 in-order-determined earlier r b b′ p q = p .answer ∙ sym (q .answer)

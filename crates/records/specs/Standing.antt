@@ -9,11 +9,13 @@ use Rattle.words.specs.declared.realm.Realm.{Realm}
 use Rattle.records.specs.Kind.{isForeign}
 use Rattle.records.specs.declared.records.Record.{Record}
 
--- strictly rising order of kind, then of body without its rights byte. Kind 1 stands once, whatever its realm
+-- strictly rising order of body without its rights byte: of realm, then of id
+abbrev pub bodyRises : Record → Record → Bool
+bodyRises earlier r = lessRealm (earlier .realm) (r .realm) (ltb (earlier .id) (r .id))
+
+-- strictly rising order of kind, then of body. Kind 1 stands once, whatever its realm
 unfoldable pub rises : Record → Record → Bool
-rises earlier r =
-    less (earlier .kind) (r .kind)
-    (not (eqb (r .kind) 1) && lessRealm (earlier .realm) (r .realm) (ltb (earlier .id) (r .id)))
+rises earlier r = less (earlier .kind) (r .kind) (not (eqb (r .kind) 1) && bodyRises earlier r)
 
 -- the unknown realm, or a foreign record that names the default realm
 unfoldable pub isForbidden : Realm → Record → Bool
@@ -22,6 +24,10 @@ isForbidden home r = sameRealm (r .realm) unknownRealm || (isForeign (r .kind) &
 -- user_obj without control, which is 8
 unfoldable pub lacksControl : Record → Bool
 lacksControl r = eqb (r .kind) 2 && eqb (r .rights / 8 % 2) 0
+
+-- telling whether a record's body may stand after another's
+pub record TellsBodies (earlier r : Record) (b : Bool) : Type 0 where
+  pub answer : b ≡ bodyRises earlier r
 
 -- telling whether a record may stand after another
 pub record TellsOrder (earlier r : Record) (b : Bool) : Type 0 where

@@ -6,6 +6,7 @@ mod standing;
 pub use records::Read;
 pub use records::Record;
 pub use records::read_record;
+pub use standing::bodies_in_order;
 pub use standing::in_order;
 pub use standing::is_forbidden;
 pub use standing::lacks_control;

@@ -6,18 +6,12 @@ use crate::records::Record;
 use words::Realm;
 use words::is_unknown;
 use words::same_realm;
-ghost use Rattle.records.specs.Standing.{TellsOrder, TellsForbidden, TellsPowerless};
+ghost use Rattle.records.specs.Standing.{TellsBodies, TellsOrder, TellsForbidden, TellsPowerless};
 
-// By kind, then by body without rights: the numbers' order is the bytes' order.
-pub fn in_order(earlier: Record, r: Record) -> bool
-    ensures { λ b. ⌜ TellsOrder earlier r b ⌝ }
+// By body without rights, of realm and then of id: the numbers' order is the bytes' order.
+pub fn bodies_in_order(earlier: Record, r: Record) -> bool
+    ensures { λ b. ⌜ TellsBodies earlier r b ⌝ }
 {
-    if earlier.kind != r.kind {
-        return earlier.kind < r.kind;
-    }
-    if r.kind == DEFAULT_REALM {
-        return false;
-    }
     let a = earlier.realm;
     let b = r.realm;
     if a.hi != b.hi {
@@ -27,6 +21,19 @@ pub fn in_order(earlier: Record, r: Record) -> bool
         return a.lo < b.lo;
     }
     earlier.id < r.id
+}
+
+// By kind, then by body.
+pub fn in_order(earlier: Record, r: Record) -> bool
+    ensures { λ b. ⌜ TellsOrder earlier r b ⌝ }
+{
+    if earlier.kind != r.kind {
+        return earlier.kind < r.kind;
+    }
+    if r.kind == DEFAULT_REALM {
+        return false;
+    }
+    bodies_in_order(earlier, r)
 }
 
 // The unknown realm, or the default realm in a foreign record.
