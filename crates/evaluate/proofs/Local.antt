@@ -34,7 +34,7 @@ module _ (caller : Caller) (default : Realm) {zero : Bool} (told : zero ≡ same
 abbrev pub of : Realm → ℕ → ℕ → Caller
 of realm user group = record { realm = realm; user = user; group = group }
 
-same-realm : (realm : Realm) → sameRealm realm realm ≡ true
+pub same-realm : (realm : Realm) → sameRealm realm realm ≡ true
 unfolding sameRealm
 same-realm realm = rw (eq-eqb (realm .hi) (realm .hi) refl, eq-eqb (realm .lo) (realm .lo) refl) refl
 
