@@ -1,4 +1,6 @@
 // Access to tokens: which rights types need, and whether a caller has them.
+#![tactic(auto)]
+
 mod judging;
 mod needs;
 pub mod refusal;

@@ -2,14 +2,14 @@
 ghost use Rattle.claims.specs.Claim.{TellsUnfit, TellsMalformed};
 
 // Twelve bytes.
-#[derive(Drop)]
+#[derive(Clone, Copy)]
 pub struct FileId {
     pub hi: u64,
     pub lo: u32,
 }
 
 // The range's first and last byte are both included.
-#[derive(Drop)]
+#[derive(Clone, Copy)]
 pub struct Claim {
     pub types: u16,
     pub host: u16,

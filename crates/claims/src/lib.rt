@@ -1,4 +1,6 @@
 // What a token or a request claims, and which types of one claim conflict with another.
+#![tactic(auto)]
+
 mod claim;
 mod rule;
 

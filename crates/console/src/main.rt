@@ -1,4 +1,6 @@
 // The console: each line of standard input is a command, and each command is answered.
+#![tactic(auto)]
+
 mod amounts;
 mod calls;
 mod command;

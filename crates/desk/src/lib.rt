@@ -1,4 +1,6 @@
 // The calls as the paper has them: ask and the grants with access judged, the others as they are.
+#![tactic(auto)]
+
 mod asking;
 mod granting;
 mod refusing;

@@ -4,7 +4,7 @@ ghost use Rattle.edit.specs.Editing.{Puts, Drops};
 use crate::writing::{write_drop, write_put};
 use entry::{Entry, Plan, plan_drop, plan_put};
 
-#[derive(Drop)]
+#[derive(Clone, Copy)]
 pub enum Edited {
     // The new list's length.
     Length(usize),

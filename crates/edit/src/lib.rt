@@ -1,4 +1,6 @@
 // Editing an access list: one entry put or dropped, the whole new list written to a second buffer.
+#![tactic(auto)]
+
 mod editing;
 pub mod refusal;
 mod writing;

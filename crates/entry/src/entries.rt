@@ -11,7 +11,7 @@ use list::kind::{FOREIGN_GROUP, FOREIGN_OTHER, FOREIGN_USER, USER, USER_OBJ};
 use words::Realm;
 
 // What its kind has not is ignored.
-#[derive(Drop)]
+#[derive(Clone, Copy)]
 pub struct Entry {
     pub kind: u8,
     pub realm: Realm,

@@ -1,4 +1,6 @@
 // An entry of an edit: its record, where that stands in a list, and what the edit comes to before a byte is written.
+#![tactic(auto)]
+
 mod entries;
 mod judging;
 mod planning;

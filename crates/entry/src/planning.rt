@@ -11,7 +11,7 @@ use crate::spot::{Spot, find};
 use evaluate::{Verdict, check_list};
 use list::refusal::UNKNOWN_KIND;
 
-#[derive(Drop)]
+#[derive(Clone, Copy)]
 pub enum Plan {
     // The record at the spot gives way to so many bytes; the new list's length.
     Splice {

@@ -16,7 +16,7 @@ use words::{Realm, number32, realm_at};
 // The record of the default realm, which comes before every entry.
 const HEADER: usize = 17;
 
-#[derive(Drop)]
+#[derive(Clone, Copy)]
 pub enum Side {
     Before,
     Same,
@@ -24,7 +24,7 @@ pub enum Side {
 }
 
 // A place, and the length of the record there; of no length where the record is not in the list.
-#[derive(Drop)]
+#[derive(Clone, Copy)]
 pub struct Spot {
     pub at: usize,
     pub size: usize,

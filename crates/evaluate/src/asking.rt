@@ -5,14 +5,14 @@ ghost use Rattle.evaluate.specs.Asking.{of_default_realm, TellsGroup};
 use words::{Realm, same_realm};
 
 // A caller; its further groups are lent beside it.
-#[derive(Drop)]
+#[derive(Clone, Copy)]
 pub struct Caller {
     pub realm: Realm,
     pub user: u32,
     pub group: u32,
 }
 
-#[derive(Drop)]
+#[derive(Clone, Copy)]
 pub struct File {
     pub owner: u32,
     pub group: u32,

@@ -8,7 +8,7 @@ use crate::refusal::TOO_MANY_GROUPS;
 // A caller has at most so many further groups.
 pub const MOST_GROUPS: usize = 32;
 
-#[derive(Drop)]
+#[derive(Clone, Copy)]
 pub enum Evaluated {
     // The rights, and the deciding record by its place and length; of no length where none decides.
     Rights {

@@ -1,4 +1,6 @@
 // Evaluating an access list: one pass makes its checks and finds what it gives a caller on a file.
+#![tactic(auto)]
+
 mod asking;
 mod evaluation;
 mod pass;

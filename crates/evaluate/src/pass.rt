@@ -7,7 +7,7 @@ use crate::steps::step_of;
 use crate::tally::{Tally, no_tally};
 use list::{Step, Walk};
 
-#[derive(Drop)]
+#[derive(Clone, Copy)]
 pub enum Passed {
     Refused { number: u8, place: usize },
     Fine(Tally),

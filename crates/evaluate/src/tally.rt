@@ -16,7 +16,7 @@ const NOTHING: u8 = 7;
 const UNMASKED: u8 = 255;
 
 // The step, the union of the records that serve it, the first of them, and the rights that mask_obj leaves.
-#[derive(Drop)]
+#[derive(Clone, Copy)]
 pub struct Tally {
     pub step: u8,
     pub rights: u8,

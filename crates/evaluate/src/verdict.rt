@@ -5,7 +5,7 @@ use crate::asking::Caller;
 use crate::pass::{Passed, pass};
 use words::Realm;
 
-#[derive(Drop)]
+#[derive(Clone, Copy)]
 pub enum Verdict {
     Fine,
     Refused { number: u8, place: usize },

@@ -15,7 +15,7 @@ use table::Reply;
 
 // A field that a call does not use is 0.
 #[repr(C)]
-#[derive(Drop)]
+#[derive(Clone, Copy)]
 pub struct Answer {
     // 0, or the refusal's number.
     pub refused: u32,

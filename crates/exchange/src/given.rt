@@ -6,7 +6,7 @@ use rights::Guard;
 use words::{number32, number64, realm_at};
 
 #[repr(C)]
-#[derive(Drop)]
+#[derive(Clone, Copy)]
 pub struct Caller {
     pub realm: [u8; 16],
     pub user: u32,
@@ -15,7 +15,7 @@ pub struct Caller {
 
 // The lent list guards it where `moded`, which is C's `by_mode`, is 0; else the local realm and the mode.
 #[repr(C)]
-#[derive(Drop)]
+#[derive(Clone, Copy)]
 pub struct File {
     pub owner: u32,
     pub group: u32,
@@ -26,7 +26,7 @@ pub struct File {
 }
 
 #[repr(C)]
-#[derive(Drop)]
+#[derive(Clone, Copy)]
 pub struct Entry {
     pub kind: u8,
     pub rights: u8,
@@ -35,7 +35,7 @@ pub struct Entry {
 }
 
 #[repr(C)]
-#[derive(Drop)]
+#[derive(Clone, Copy)]
 pub struct Claim {
     pub types: u16,
     pub host: u16,

@@ -1,4 +1,6 @@
 // What C hands over and what it is answered, as the calls have them.
+#![tactic(auto)]
+
 mod answer;
 mod given;
 

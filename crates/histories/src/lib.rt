@@ -1,1 +1,2 @@
 // What is promised of a table over every history of calls.
+#![tactic(auto)]

@@ -1,4 +1,6 @@
 // The access list in bytes: the walk from record to record, with all of a list's checks on the way.
+#![tactic(auto)]
+
 mod faults;
 pub mod refusal;
 mod walk;

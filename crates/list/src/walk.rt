@@ -18,7 +18,7 @@ use words::{Realm, realm_at};
 pub const LONGEST: usize = 4096;
 
 // Where the next record begins, the default realm, the record before, and the marks of all so far.
-#[derive(Drop)]
+#[derive(Clone, Copy)]
 pub struct Walk {
     pub at: usize,
     pub home: Realm,
@@ -26,7 +26,7 @@ pub struct Walk {
     pub marks: u8,
 }
 
-#[derive(Drop)]
+#[derive(Clone, Copy)]
 pub enum Step {
     Next(Record, Walk),
     Refused { number: u8, place: usize },

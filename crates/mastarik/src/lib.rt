@@ -1,4 +1,6 @@
 // The static library: every call, for C.
+#![tactic(auto)]
+
 mod lists;
 mod tables;
 mod types;

@@ -12,7 +12,7 @@ use widest::{Range, with_range};
 const ALL: u16 = 0b1111_1111;
 
 // What stays of a token: nothing, one claim, or the bytes before a part and those after it.
-#[derive(Drop)]
+#[derive(Clone, Copy)]
 pub enum Kept {
     Nothing,
     One { claim: Claim },

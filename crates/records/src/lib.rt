@@ -1,4 +1,6 @@
 // One record of an access list: its kind, how it is read, and what lets it stand.
+#![tactic(auto)]
+
 pub mod kind;
 mod records;
 mod standing;

@@ -10,7 +10,7 @@ use crate::kind::{ANY_OTHER, DEFAULT_REALM, FOREIGN_GROUP, FOREIGN_OTHER, GROUP,
 use words::{Realm, number32, realm_at};
 
 // What a record says, and its length with the kind's byte; what its kind has not is zero.
-#[derive(Drop)]
+#[derive(Clone, Copy)]
 pub struct Record {
     pub kind: u8,
     pub realm: Realm,
@@ -20,7 +20,7 @@ pub struct Record {
 }
 
 // What stands at the head of a tail.
-#[derive(Drop)]
+#[derive(Clone, Copy)]
 pub enum Read {
     // The tail is empty.
     Nothing,

@@ -1,4 +1,6 @@
 // The calls that give tokens back: return, drop host.
+#![tactic(auto)]
+
 mod dropping;
 mod returning;
 

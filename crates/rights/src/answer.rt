@@ -2,7 +2,7 @@
 ghost use Rattle.evaluate.specs.Evaluation.{bare};
 ghost use Rattle.rights.specs.Deciding.{answer_says, Finds};
 
-#[derive(Drop)]
+#[derive(Clone, Copy)]
 pub enum Answer {
     Rights(u8),
     // 22 or 23.
@@ -12,7 +12,7 @@ pub enum Answer {
 }
 
 // The answer, and the deciding record by its place in the list and its length.
-#[derive(Drop)]
+#[derive(Clone, Copy)]
 pub struct Found {
     pub answer: Answer,
     pub start: usize,

@@ -9,7 +9,7 @@ use crate::guard::Guard;
 use evaluate::{Caller, File};
 
 // The answer, and the deciding record; empty where no record decides.
-#[derive(Drop)]
+#[derive(Clone, Copy)]
 pub struct Decision<'a> {
     pub answer: Answer,
     pub part: &'a [u8],

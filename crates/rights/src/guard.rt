@@ -1,7 +1,7 @@
 // What guards a file.
 use words::Realm;
 
-#[derive(Drop)]
+#[derive(Clone, Copy)]
 pub enum Guard {
     // The access list that is lent.
     List,

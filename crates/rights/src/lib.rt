@@ -1,4 +1,6 @@
 // Rights: what a list or a mode gives a caller on a file, and the record that decided.
+#![tactic(auto)]
+
 mod answer;
 mod deciding;
 mod decision;

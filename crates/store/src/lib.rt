@@ -1,4 +1,6 @@
 // What is written into a table's bytes: a slot, and a fresh table.
+#![tactic(auto)]
+
 mod filling;
 mod storing;
 

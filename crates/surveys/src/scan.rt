@@ -10,7 +10,7 @@ use table::{LIMIT, NEXT, Slot, WIDTH, is_slot, opens, read_slot};
 use words::number64;
 
 // Conflicts are counted; the free place is how many slots there are where none is free.
-#[derive(Drop)]
+#[derive(Clone, Copy)]
 pub struct Seen {
     pub formed: bool,
     pub conflicts: usize,

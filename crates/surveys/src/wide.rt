@@ -12,7 +12,7 @@ use widest::{Range, beside, is_rival};
 use words::number64;
 
 // What was seen, and the range that the tokens leave.
-#[derive(Drop)]
+#[derive(Clone, Copy)]
 pub struct SeenWide {
     pub seen: Seen,
     pub range: Range,

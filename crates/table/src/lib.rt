@@ -1,4 +1,6 @@
 // The token table in bytes: a slot read, and whether a table is well formed.
+#![tactic(auto)]
+
 mod form;
 pub mod refusal;
 mod reply;

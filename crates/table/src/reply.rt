@@ -1,5 +1,5 @@
 // What a call on a table says.
-#[derive(Drop)]
+#[derive(Clone, Copy)]
 pub enum Reply {
     Done,
     // Done, with a number or a count.

@@ -6,7 +6,7 @@ use claims::{Claim, FileId};
 use words::{number16, number32, number64};
 
 // A token is a claim under a number.
-#[derive(Drop)]
+#[derive(Clone, Copy)]
 pub enum Slot {
     Free,
     Held { number: u64, claim: Claim },

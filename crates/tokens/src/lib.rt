@@ -1,4 +1,6 @@
 // The calls that take tokens, access apart: ask, grant, and grant with the widest range.
+#![tactic(auto)]
+
 mod asking;
 mod granting;
 

@@ -5,7 +5,7 @@ ghost use Rattle.widest.specs.Widest.{later, earlier, Ranges, TellsRival, Leaves
 use claims::{Claim, conflict};
 
 // First and last byte are both included.
-#[derive(Drop)]
+#[derive(Clone, Copy)]
 pub struct Range {
     pub first: u64,
     pub last: u64,

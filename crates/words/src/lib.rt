@@ -1,4 +1,5 @@
 // Numbers and realms in bytes: big-endian, read and compared.
+#![tactic(auto)]
 mod number;
 mod realm;
 

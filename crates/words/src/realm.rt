@@ -3,7 +3,7 @@ ghost use Rattle.words.specs.Realm.{ReadsRealm, TellsRealms, TellsUnknown};
 
 use crate::number::{holds, whole64};
 
-#[derive(Drop)]
+#[derive(Clone, Copy)]
 pub struct Realm {
     pub hi: u64,
     pub lo: u64,

@@ -1,4 +1,6 @@
 // Numbers and realms written to lent bytes, big-endian.
+#![tactic(auto)]
+
 mod number;
 mod realm;
 
