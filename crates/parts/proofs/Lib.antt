@@ -1,4 +1,4 @@
 pub mod Lost
-pub mod Kept
+pub mod Staying
 pub mod Meant
 pub mod Determined

@@ -20,7 +20,7 @@ use Rattle.claims.proofs.Within.{Within}
 use Rattle.claims.proofs.Ranges.{in_order as in-order-of}
 use Rattle.parts.specs.Part.{is_whole, kept}
 use Rattle.parts.specs.Meaning.{On, Claims, SomeClaims, LessNamed}
-use Rattle.parts.proofs.Kept.{Part, Allowed, whole, part, allowed, whole_range, each_kept, fewer_stays, before_stays, after_stays}
+use Rattle.parts.proofs.Staying.{Part, Allowed, whole, part, allowed, whole_range, each_kept, fewer_stays, before_stays, after_stays}
 
 -- a claim that is not malformed has a type
 some_types : (claim : Claim) (top : ℕ) → malformed claim top ≡ false → claim.types ≢ 0

@@ -9,7 +9,9 @@ use Rattle.list.proofs.walk.Walk.hear.Goals as goal
 
 pub take-requires : goal.take-requires
 unfolding heard refused_or when_whole fault
-take-requires c = let q = sym (read_is c.read_record.ensures) ∙ c.in-Whole.is in (omega (arith, within_tail c.args.tail.now c.in-Whole.r q), unplaced c.args.tail.now c.in-Whole.r (is c.args.tail.now c.in-Whole.r q))
+take-requires c =
+    let q = sym (read_is c.read_record.ensures) ∙ c.in-Whole.is in
+    record { size_bound = omega (arith, within_tail c.args.tail.now c.in-Whole.r q); realm_value = unplaced c.args.tail.now c.in-Whole.r (is c.args.tail.now c.in-Whole.r q) }
 
 pub returns-in-Nothing : goal.returns-in-Nothing
 unfolding heard refused_or when_whole fault

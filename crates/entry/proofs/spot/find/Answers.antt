@@ -1,0 +1,46 @@
+use Prim.Native.Nat.{◌-◌}
+use native.Mathlib.Omega.{arith}
+use borrow.Author.Rules.{part_to_end}
+use lib.ListN.{length}
+use Rattle.entry.proofs.Spots.{first_of, Reached, starts, is_entry_kind, enough, goes_on, goes, stops_same, stops_after, spotted, ends}
+use Rattle.entry.proofs.spot.find.Goals as goal
+
+pub loop-at-init : goal.loop-at-init
+unfolding spotted
+loop-at-init c = starts _ _ (λ i. (c.shared_slice_known-1.given i).fits) c.requires.0 c.requires.1
+
+pub side_of-requires : goal.side_of-requires
+unfolding spotted
+side_of-requires c = rw part_to_end (is_entry_kind c.loop-at.invariant c.loop-at-test.true, enough c.loop-at.invariant c.loop-at-test.true)
+
+pub size_of-at-requires : goal.size_of-at-requires
+unfolding spotted
+size_of-at-requires c = rw (first_of c.args.list.now c.loop-at.at) (is_entry_kind c.loop-at.invariant c.loop-at-test.true)
+
+pub overflow_add-at : goal.overflow_add-at
+unfolding spotted
+overflow_add-at c = let g = goes_on c.loop-at.invariant c.loop-at-test.true (rw (first_of c.args.list.now c.loop-at.at) at c.type_size.ensures) in omega arith
+
+pub loop-at-smaller : goal.loop-at-smaller
+unfolding spotted
+loop-at-smaller c = let g = goes_on c.loop-at.invariant c.loop-at-test.true (rw (first_of c.args.list.now c.loop-at.at) at c.type_size.ensures) in omega arith
+
+pub loop-at-preserved : goal.loop-at-preserved
+unfolding spotted
+loop-at-preserved c = goes c.loop-at.invariant c.loop-at-test.true (rw (first_of c.args.list.now c.loop-at.at) at c.type_size.ensures) (rw part_to_end at c.side_of.ensures) c.in-Before.is
+
+pub size_of-requires : goal.size_of-requires
+unfolding spotted
+size_of-requires c = rw (first_of c.args.list.now c.loop-at.at) (is_entry_kind c.loop-at.invariant c.loop-at-test.true)
+
+pub returns-in-Same : goal.returns-in-Same
+unfolding spotted
+returns-in-Same c = stops_same c.loop-at.invariant c.loop-at-test.true (rw part_to_end at c.side_of.ensures) c.requires.1 c.in-Same.is (rw (first_of c.args.list.now c.loop-at.at) at c.size_of.ensures)
+
+pub returns-in-After : goal.returns-in-After
+unfolding spotted
+returns-in-After c = stops_after c.loop-at.invariant c.loop-at-test.true (rw part_to_end at c.side_of.ensures) c.requires.1 c.in-After.is
+
+pub returns : goal.returns
+unfolding spotted
+returns c = ends c.loop-at.invariant c.loop-at-test.false

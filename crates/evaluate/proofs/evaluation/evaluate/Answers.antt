@@ -1,0 +1,17 @@
+use mathlib.Core.Path.{◌∙◌}
+use Rattle.evaluate.specs.Evaluation.{evaluation, evaluated_as}
+use Rattle.evaluate.proofs.Many.{too_many, not_too_many}
+use Rattle.evaluate.proofs.Passing.{dir_unasked, evaluated_refused, evaluated_fine}
+use Rattle.evaluate.proofs.evaluation.evaluate.Goals as goal
+
+pub returns-then-groups-gt-MOST_GROUPS : goal.returns-then-groups-gt-MOST_GROUPS
+unfolding evaluation evaluated_as
+returns-then-groups-gt-MOST_GROUPS c = record { answer = too_many _ _ c.if-groups-gt-MOST_GROUPS.true }
+
+pub returns-in-Refused : goal.returns-in-Refused
+unfolding evaluation evaluated_as
+returns-in-Refused c = record { answer = evaluated_refused c.pass.ensures c.in-Refused.is ∙ dir_unasked _ _ _ _ _ ∙ not_too_many _ _ c.if-groups-gt-MOST_GROUPS.false }
+
+pub returns-in-Fine : goal.returns-in-Fine
+unfolding evaluation evaluated_as
+returns-in-Fine c = record { answer = evaluated_fine c.pass.ensures c.in-Fine.is c.allowed.ensures.0 c.allowed.ensures.1 ∙ dir_unasked _ _ _ _ _ ∙ not_too_many _ _ c.if-groups-gt-MOST_GROUPS.false }
