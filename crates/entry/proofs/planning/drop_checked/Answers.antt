@@ -1,4 +1,5 @@
-use mathlib.Core.Path.{sym, ◌∙◌}
+use mathlib.Core.Bool.{not}
+use mathlib.Core.Path.{sym, ◌∙◌, ap}
 use native.Mathlib.Omega.{arith}
 use Rattle.entry.proofs.Lengths.{is_above}
 use Rattle.entry.proofs.Located.{locate, spot_inside}
@@ -6,13 +7,13 @@ use Rattle.entry.proofs.Outcomes.{drop_kind, drop_nothing, drop_refused, drop_sp
 use Rattle.entry.proofs.planning.drop_checked.Goals as goal
 
 pub returns-then-not-is_entry : goal.returns-then-not-is_entry
-returns-then-not-is_entry c = drop_kind c.requires c.is_entry.ensures c.if-not-is_entry.true
+returns-then-not-is_entry c = drop_kind c.requires c.is_entry.ensures (ap not c.if-not-is_entry.true)
 
 pub record_of-requires : goal.record_of-requires
 record_of-requires c = sym c.is_entry.ensures ∙ c.if-not-is_entry.false
 
 pub find-spot-requires : goal.find-spot-requires
-find-spot-requires c = (c.requires, is_above c.record_of.result.kind c.record_of.ensures.is_entry)
+find-spot-requires c = (c.requires, is_above c.record_of.result.kind c.record_of.ensures.is_entry_kind)
 
 pub returns-then-spot-eq0 : goal.returns-then-spot-eq0
 returns-then-spot-eq0 c = drop_nothing (locate (λ i. (c.shared_slice_known-1.given i).fits) c.requires c.record_of.ensures c.find-spot.ensures) c.if-spot-eq0.true

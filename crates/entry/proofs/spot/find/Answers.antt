@@ -19,15 +19,15 @@ size_of-at-requires c = rw (first_of c.args.list.now c.loop-at.at) (is_entry_kin
 
 pub overflow_add-at : goal.overflow_add-at
 unfolding spotted
-overflow_add-at c = let g = goes_on c.loop-at.invariant c.loop-at-test.true (rw (first_of c.args.list.now c.loop-at.at) at c.type_size.ensures) in omega arith
+overflow_add-at c = let g = goes_on c.loop-at.invariant c.loop-at-test.true (rw (first_of c.args.list.now c.loop-at.at) at c.size_of-at.ensures) in omega arith
 
 pub loop-at-smaller : goal.loop-at-smaller
 unfolding spotted
-loop-at-smaller c = let g = goes_on c.loop-at.invariant c.loop-at-test.true (rw (first_of c.args.list.now c.loop-at.at) at c.type_size.ensures) in omega arith
+loop-at-smaller c = let g = goes_on c.loop-at.invariant c.loop-at-test.true (rw (first_of c.args.list.now c.loop-at.at) at c.size_of-at.ensures) in omega arith
 
 pub loop-at-preserved : goal.loop-at-preserved
 unfolding spotted
-loop-at-preserved c = goes c.loop-at.invariant c.loop-at-test.true (rw (first_of c.args.list.now c.loop-at.at) at c.type_size.ensures) (rw part_to_end at c.side_of.ensures) c.in-Before.is
+loop-at-preserved c = goes c.loop-at.invariant c.loop-at-test.true (rw (first_of c.args.list.now c.loop-at.at) at c.size_of-at.ensures) (rw part_to_end at c.side_of.ensures) c.in-Before.is
 
 pub size_of-requires : goal.size_of-requires
 unfolding spotted
