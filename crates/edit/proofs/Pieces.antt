@@ -7,7 +7,7 @@ use native.Mathlib.Omega.{arith}
 use borrow.Author.Tests.{eq-eqb, ne_eqb}
 use lib.Dec.{eqb, ltb}
 use lib.ListN.{length, take, drop, set, length-append, length-drop, drop_of_length-le}
-use lib.Seq.{take_all, take-length, drop-drop}
+use lib.Seq.{drop-drop}
 use Rattle.words.specs.Test.{if◌then◌else◌}
 use Rattle.words.specs.Number.{within}
 use Rattle.words.specs.Writing.{digits, over, written}
@@ -22,14 +22,12 @@ use Rattle.entry.proofs.Lengths.{rights_is, size_is, realm_by_size}
 use Rattle.entry.proofs.Spelled.{part_whole, length_a, length_b, spelled_length}
 
 -- what a copy into the part from a place on leaves
-pub copied : (at : ℕ) (piece out after : List ℕ) → at + length piece ≤ length out
-    → after ≡ take (length piece) piece ++ drop (length piece) (take (length out - at) (drop at out))
-    → take at out ++ (after ++ drop (length out - at) (drop at out)) ≡ over at piece out
+pub copied : (at : ℕ) (piece out after : List ℕ) → after ≡ piece
+    → take at out ++ (after ++ drop (at + length piece - at) (drop at out)) ≡ over at piece out
 unfolding over
-copied at piece out after h q =
-    let n : length (drop at out) ≡ length out - at = length-drop at out in
-    let l : length (drop at out) ≤ length out - at = omega arith in
-    rw (q, take-length piece, take_all (length out - at) (drop at out) l, drop_of_length-le (drop at out) l, append-nil, drop-drop (length piece) at out, append_assoc)
+copied at piece out after q =
+    let n : at + length piece - at ≡ length piece = omega arith in
+    rw (q, n, drop-drop (length piece) at out, append_assoc)
 
 -- a part of a body, where its kind has it and where it has not
 pub part_there : (at n : ℕ) (piece out : List ℕ) → (n ≡ 0 → ⊥) → written at piece out ≡ written at (part_of n piece) out

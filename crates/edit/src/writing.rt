@@ -10,7 +10,6 @@ ghost use Rattle.edit.specs.Writing.{splice, Fits, Writes};
 
 use crate::editing::Edited;
 use crate::refusal::OUTPUT_TOO_SHORT;
-use bytes::copy;
 use entry::{Entry, Spot};
 use words::Realm;
 use writes::{write_number32, write_realm};
@@ -20,7 +19,7 @@ fn copy_to(out: &mut [u8], at: usize, piece: &[u8])
     requires { at + length piece.now ≤ length out.old }
     ensures { out.new ≡ over at piece.now out.old }
 {
-    copy(piece, &mut out[at..]);
+    out[at..at + piece.len()].copy_from_slice(piece);
 }
 
 // How many bytes of an entry's record, so long, are its realm.
