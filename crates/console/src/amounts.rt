@@ -2,7 +2,7 @@
 ghost use Rattle.std.specs.Prelude.{◌≤◌};
 
 // A number, if the word is one that fits.
-#[derive(Drop)]
+#[derive(Clone, Copy)]
 pub struct Given {
     pub fits: bool,
     pub value: u64,

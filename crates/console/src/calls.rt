@@ -44,7 +44,7 @@ pub(crate) fn needs(line: &[u8], file: File) -> Line {
 }
 
 // A claim, if the words say one.
-#[derive(Drop)]
+#[derive(Clone, Copy)]
 pub struct Request {
     pub fits: bool,
     pub claim: Claim,
@@ -150,7 +150,7 @@ pub(crate) fn rights(memory: Memory, list: &[u8], groups: &[u32]) -> Line {
 }
 
 // An entry, if the words say one.
-#[derive(Drop)]
+#[derive(Clone, Copy)]
 pub struct Item {
     pub fits: bool,
     pub entry: Entry,

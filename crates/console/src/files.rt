@@ -1,89 +1,140 @@
 // The table's bytes from a file and to one.
-use crate::looking::{may_be_written, mode_of};
+use crate::looking::{is_regular, may_be_written};
 use crate::says::{done_with, error};
 use crate::spaced::word;
 use crate::texts::{Line, first, paste};
+use std::fs;
+use std::fs::{Metadata, OpenFile, OpenOptions, Permissions};
+use std::io::{ErrorKind, Read, Write};
+use std::rt::Files;
 
-// No byte is left, and that could be seen.
-fn is_ended(fd: i32) -> bool {
-    let mut next = [0u8; 1];
-    libc::read(fd, &mut next) == 0
+// How many bytes of a buffer the file filled, until it ended or could not be read.
+fn fill(file: &mut impl Read, bytes: &mut [u8]) -> usize {
+    let mut filled = 0;
+    for _ in 0..bytes.len() {
+        match file.read(&mut bytes[filled..]) {
+            Ok(0) => return filled,
+            Ok(n) => filled += n,
+            Err(_) => return filled,
+        }
+    }
+    filled
 }
 
-pub(crate) fn load(line: &[u8], table: &mut [u8]) -> Line {
-    let fd = os::open_read(word(line, 1));
-    if fd < 0 {
-        return error(b"FILE cannot be opened");
+// No byte is left, and that could be seen.
+fn is_ended(file: &mut impl Read) -> bool {
+    let mut next = [0u8; 1];
+    match file.read(&mut next) {
+        Ok(n) => n == 0,
+        Err(_) => false,
     }
-    let mut bytes = io::large_buffer();
-    let n = io::read_full(fd, &mut bytes);
-    let ended = is_ended(fd);
-    libc::close(fd);
-    if !ended {
+}
+
+fn read_all(file: &mut impl Read, table: &mut [u8]) -> Line {
+    let mut bytes = [0u8; 65536];
+    let n = fill(file, &mut bytes);
+    if !is_ended(file) {
         return error(b"FILE cannot be read, or has more than 65536 bytes");
     }
     paste(first(&bytes, n), table, 0);
     done_with(n as u64)
 }
 
-// A file that takes another's place has its mode.
-fn keep_mode(fd: i32, mode: u32) -> bool {
-    if mode == 0 {
-        return true;
+fn load_from(rt: &impl Files, file: &str, table: &mut [u8]) -> Line {
+    match fs::open(rt, file) {
+        Ok(mut opened) => read_all(&mut opened, table),
+        Err(_) => error(b"FILE cannot be opened"),
     }
-    libc::fchmod(fd, mode % 4096) == 0
+}
+
+pub(crate) fn load(rt: &impl Files, line: &[u8], table: &mut [u8]) -> Line {
+    match str::from_utf8(word(line, 1)) {
+        Ok(file) => load_from(rt, file, table),
+        Err(_) => error(b"FILE cannot be opened"),
+    }
+}
+
+// A file that takes another's place has its mode.
+fn keep_mode(file: &impl OpenFile, mode: Option<Permissions>) -> bool {
+    match mode {
+        Some(mode) => file.set_permissions(mode).is_ok(),
+        None => true,
+    }
 }
 
 // All of the bytes, until they have reached the device.
-fn write_out(fd: i32, mode: u32, bytes: &[u8]) -> bool {
-    let moded = keep_mode(fd, mode);
-    let written = io::write_all(fd, bytes);
-    let synced = libc::fsync(fd) == 0;
-    let closed = libc::close(fd) == 0;
-    moded & written & synced & closed
-}
-
-// Why the new name could not be made.
-fn not_made() -> Line {
-    if os::errno() == libc::EEXIST {
-        return error(b"FILE.new is there already");
-    }
-    error(b"FILE cannot be opened")
+fn write_out(file: &mut (impl OpenFile + Write), mode: Option<Permissions>, bytes: &[u8]) -> bool {
+    let moded = keep_mode(file, mode);
+    let written = file.write_all(bytes).is_ok();
+    let synced = file.sync_all().is_ok();
+    moded & written & synced
 }
 
 // The bytes under a new name, which then takes the file's place. Where that fails the new name is gone, and the file is as it was.
-fn replace(file: &[u8], mode: u32, new: &[u8], bytes: &[u8]) -> Line {
-    let fd = os::create(new);
-    if fd < 0 {
-        return not_made();
-    }
-    if write_out(fd, mode, bytes) {
-        if os::rename(new, file) == 0 {
-            return done_with(bytes.len() as u64);
+fn replace(
+    rt: &impl Files,
+    file: &str,
+    mode: Option<Permissions>,
+    new: &str,
+    bytes: &[u8],
+) -> Line {
+    match OpenOptions::new()
+        .write(true)
+        .create_new(true)
+        .open(rt, new)
+    {
+        Ok(mut made) => {
+            if write_out(&mut made, mode, bytes) {
+                if fs::rename(rt, new, file).is_ok() {
+                    return done_with(bytes.len() as u64);
+                }
+            }
+            let _gone = fs::remove_file(rt, new).is_ok();
+            error(b"FILE cannot be written")
+        }
+        Err(why) => {
+            if why.kind() == ErrorKind::AlreadyExists {
+                return error(b"FILE.new is there already");
+            }
+            error(b"FILE cannot be opened")
         }
     }
-    os::unlink(new);
-    error(b"FILE cannot be written")
 }
 
-fn save_as(file: &[u8], mode: u32, table: &[u8]) -> Line {
-    let mut name = io::buffer();
-    let end = paste(file, &mut name, 0);
+fn save_as(rt: &impl Files, file: &str, mode: Option<Permissions>, table: &[u8]) -> Line {
+    let mut name = [0u8; 4096];
+    let end = paste(file.as_bytes(), &mut name, 0);
     let end = paste(b".new", &mut name, end);
-    replace(file, mode, first(&name, end), table)
+    match str::from_utf8(first(&name, end)) {
+        Ok(new) => replace(rt, file, mode, new, table),
+        Err(_) => error(b"FILE cannot be opened"),
+    }
 }
 
-pub(crate) fn save(line: &[u8], table: &[u8]) -> Line {
+// In the place of what stands there.
+fn save_over(rt: &impl Files, file: &str, what: &Metadata, table: &[u8]) -> Line {
+    if !is_regular(what) {
+        return error(b"FILE is no regular file");
+    }
+    if !may_be_written(rt, file) {
+        return error(b"FILE cannot be opened");
+    }
+    save_as(rt, file, Some(what.permissions()), table)
+}
+
+fn save_to(rt: &impl Files, file: &str, table: &[u8]) -> Line {
+    match fs::symlink_metadata(rt, file) {
+        Ok(what) => save_over(rt, file, &what, table),
+        Err(_) => save_as(rt, file, None, table),
+    }
+}
+
+pub(crate) fn save(rt: &impl Files, line: &[u8], table: &[u8]) -> Line {
     if table.len() == 0 {
         return error(b"there is no table to save");
     }
-    let file = word(line, 1);
-    let mode = mode_of(file);
-    if (mode != 0) & (mode & libc::S_IFMT != libc::S_IFREG) {
-        return error(b"FILE is no regular file");
+    match str::from_utf8(word(line, 1)) {
+        Ok(file) => save_to(rt, file, table),
+        Err(_) => error(b"FILE cannot be opened"),
     }
-    if (mode != 0) & !may_be_written(file) {
-        return error(b"FILE cannot be opened");
-    }
-    save_as(file, mode, table)
 }

@@ -12,9 +12,10 @@ use crate::says::{done, error};
 use crate::showing::show;
 use crate::texts::{Line, first};
 use crate::{calls, command, files, setting};
+use std::rt::Files;
 
 // The commands that go by the table.
-fn by_table(command: usize, line: &[u8], n: usize, table: &mut [u8]) -> Line {
+fn by_table(rt: &impl Files, command: usize, line: &[u8], n: usize, table: &mut [u8]) -> Line {
     let n = least(n, table.len());
     let table = &mut table[0..n];
     match command {
@@ -23,16 +24,16 @@ fn by_table(command: usize, line: &[u8], n: usize, table: &mut [u8]) -> Line {
         command::AUDIT => calls::audit(table),
         command::RETURN => calls::give_back(line, table),
         command::HELD => held(table),
-        _ => files::save(line, table),
+        _ => files::save(rt, line, table),
     }
 }
 
 // Those, and the commands that set it.
-fn on_table(command: usize, line: &[u8], n: usize, table: &mut [u8]) -> Line {
+fn on_table(rt: &impl Files, command: usize, line: &[u8], n: usize, table: &mut [u8]) -> Line {
     match command {
         command::TABLE => setting::table(line, table),
-        command::LOAD => files::load(line, table),
-        _ => by_table(command, line, n, table),
+        command::LOAD => files::load(rt, line, table),
+        _ => by_table(rt, command, line, n, table),
     }
 }
 
@@ -105,6 +106,7 @@ fn by_line(command: usize, line: &[u8]) -> Line {
 }
 
 fn answer(
+    rt: &impl Files,
     command: usize,
     line: &[u8],
     memory: Memory,
@@ -133,7 +135,7 @@ fn answer(
         | command::FILL
         | command::DROP
         | command::AUDIT
-        | command::RETURN => on_table(command, line, memory.table, table),
+        | command::RETURN => on_table(rt, command, line, memory.table, table),
         _ => alone(command, line, memory),
     }
 }
@@ -145,6 +147,7 @@ fn say(command: usize, said: Line, words: bool, n: usize, table: &[u8], list: &[
 }
 
 fn obey(
+    rt: &impl Files,
     command: usize,
     line: &[u8],
     memory: Memory,
@@ -152,13 +155,14 @@ fn obey(
     list: &mut [u8],
     out: &mut [u8],
 ) -> Memory {
-    let said = answer(command, line, memory, table, list, out);
+    let said = answer(rt, command, line, memory, table, list, out);
     say(command, said, memory.words, memory.list, table, list, out);
     remember(command, line, said, memory)
 }
 
 // What a line comes to: nothing, an answer that is held against the line, or one that is told.
 fn turn(
+    rt: &impl Files,
     typed: Typed,
     line: &[u8],
     number: u64,
@@ -176,17 +180,23 @@ fn turn(
     if command == command::EXPECT {
         return expect(line, number, memory, table, list, out);
     }
-    obey(command, line, memory, table, list, out)
+    obey(rt, command, line, memory, table, list, out)
 }
 
 // To the end of the input, or to `quit`; no input has so many lines.
-pub(crate) fn serve(line: &mut [u8], table: &mut [u8], list: &mut [u8], out: &mut [u8]) {
+pub(crate) fn serve(
+    rt: &impl Files,
+    line: &mut [u8],
+    table: &mut [u8],
+    list: &mut [u8],
+    out: &mut [u8],
+) {
     let mut memory = start();
     let mut number = 0u64;
     while number < u64::MAX {
         number += 1;
         let typed = next_line(line);
-        memory = turn(typed, line, number, memory, table, list, out);
+        memory = turn(rt, typed, line, number, memory, table, list, out);
         if memory.over {
             return;
         }

@@ -27,19 +27,30 @@ mod spaced;
 mod texts;
 
 use says::error;
+use std::env::FillError;
+use std::rt::Env;
 
 fn refuse_arguments() {
     error(b"the console takes no arguments: it reads commands from standard input").print_line();
 }
 
-fn main() {
-    if 1 < os::arg_count() {
+// Whether the program was given an argument, however long.
+fn has_arguments(rt: &impl Env) -> bool {
+    let mut argument = [0u8; 1];
+    match rt.arg(1, &mut argument) {
+        Ok(_) | Err(FillError::TooLong) => true,
+        Err(FillError::NotPresent) => false,
+    }
+}
+
+fn main(rt: HostRuntime) {
+    if has_arguments(&rt) {
         refuse_arguments();
         return;
     }
     let mut line = [0u8; 16385];
-    let mut table = io::large_buffer();
+    let mut table = [0u8; 65536];
     let mut list = [0u8; 16384];
     let mut out = [0u8; 16384];
-    lines::serve(&mut line, &mut table, &mut list, &mut out);
+    lines::serve(&rt, &mut line, &mut table, &mut list, &mut out);
 }

@@ -6,7 +6,7 @@ use evaluate::{Caller, File};
 use rights::Guard;
 use words::Realm;
 
-#[derive(Drop)]
+#[derive(Clone, Copy)]
 pub struct Memory {
     // How many bytes of its buffer the table has, and the list.
     pub table: usize,

@@ -1,7 +1,8 @@
 // Standard input, line by line.
 use crate::spaced::SPACE;
 use crate::texts::NEWLINE;
-use libc::STDIN_FILENO;
+
+const STDIN: i32 = 0;
 
 const TAB: u8 = 9;
 
@@ -11,7 +12,7 @@ const CARRIAGE_RETURN: u8 = 13;
 const LONGEST: usize = 16384;
 
 // How much of a line is there, whether it is too long, and whether the input ended with it.
-#[derive(Drop)]
+#[derive(Clone, Copy)]
 pub struct Typed {
     pub length: usize,
     pub long: bool,
@@ -19,7 +20,7 @@ pub struct Typed {
 }
 
 // A letter, if there is one more.
-#[derive(Drop)]
+#[derive(Clone, Copy)]
 pub struct Key {
     pub pressed: bool,
     pub letter: u8,
@@ -27,7 +28,7 @@ pub struct Key {
 
 fn next_key() -> Key {
     let mut byte = [0u8; 1];
-    let got = libc::read(STDIN_FILENO, &mut byte);
+    let got = io::read_full(STDIN, &mut byte);
     Key {
         pressed: got == 1,
         letter: byte[0],

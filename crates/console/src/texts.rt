@@ -4,7 +4,8 @@ ghost use Rattle.std.specs.Prelude.{◌≡◌, length};
 use crate::kind;
 use crate::memory::least;
 use check::same;
-use libc::STDOUT_FILENO;
+
+const STDOUT: i32 = 1;
 
 pub(crate) const NEWLINE: u8 = 10;
 
@@ -12,7 +13,7 @@ pub(crate) const NEWLINE: u8 = 10;
 pub(crate) const ROOM: usize = 512;
 
 // Its first letters.
-#[derive(Drop)]
+#[derive(Clone, Copy)]
 pub struct Line {
     pub letters: [u8; ROOM],
     pub length: usize,
@@ -25,7 +26,7 @@ pub struct Line {
 
 // Letters to standard output.
 pub(crate) fn write(letters: &[u8]) {
-    io::write_all(STDOUT_FILENO, letters);
+    io::write_all(STDOUT, letters);
 }
 
 pub(crate) fn first<'a>(letters: &'a [u8], n: usize) -> &'a [u8] {
