@@ -1,4 +1,4 @@
-// The static library: every call, for C.
+// Every call as C has it: `mastarik_c` exports them.
 #![tactic(auto)]
 
 mod lists;

@@ -9,15 +9,13 @@ use exchange::{
 };
 use rights::decide;
 
-#[unsafe(no_mangle)]
-pub extern "C" fn mastarik_check(list: &[u8]) -> Answer
+pub fn mastarik_check(list: &[u8]) -> Answer
     ensures { Checks list.now result }
 {
     of_verdict(check_list(list))
 }
 
-#[unsafe(no_mangle)]
-pub extern "C" fn mastarik_rights(list: &[u8], groups: &[u32], caller: Caller, file: File) -> Answer
+pub fn mastarik_rights(list: &[u8], groups: &[u32], caller: Caller, file: File) -> Answer
     ensures { GivesRights list.now groups.now caller file result }
 {
     let who = caller_of(caller);
@@ -26,15 +24,13 @@ pub extern "C" fn mastarik_rights(list: &[u8], groups: &[u32], caller: Caller, f
     of_found(decide(list, groups, who, what, guard))
 }
 
-#[unsafe(no_mangle)]
-pub extern "C" fn mastarik_put_entry(list: &[u8], entry: Entry, out: &mut [u8]) -> Answer
+pub fn mastarik_put_entry(list: &[u8], entry: Entry, out: &mut [u8]) -> Answer
     ensures { Puts list.now entry out.old result out.new }
 {
     of_edited(put_entry(list, entry_of(entry), out))
 }
 
-#[unsafe(no_mangle)]
-pub extern "C" fn mastarik_drop_entry(list: &[u8], entry: Entry, out: &mut [u8]) -> Answer
+pub fn mastarik_drop_entry(list: &[u8], entry: Entry, out: &mut [u8]) -> Answer
     ensures { Drops list.now entry out.old result out.new }
 {
     of_edited(drop_entry(list, entry_of(entry), out))

@@ -5,15 +5,13 @@ use exchange::{
     Answer, Caller, Claim, File, caller_of, claim_of, file_of, guard_of, of_reply, of_truth,
 };
 
-#[unsafe(no_mangle)]
-pub extern "C" fn mastarik_fill(table: &mut [u8]) -> Answer
+pub fn mastarik_fill(table: &mut [u8]) -> Answer
     ensures { Fills table.old result table.new }
 {
     of_reply(desk::fill(table))
 }
 
-#[unsafe(no_mangle)]
-pub extern "C" fn mastarik_ask(
+pub fn mastarik_ask(
     table: &[u8],
     claim: Claim,
     list: &[u8],
@@ -31,8 +29,7 @@ pub extern "C" fn mastarik_ask(
     of_reply(desk::ask(table, asked, list, groups, who, what, guard, out))
 }
 
-#[unsafe(no_mangle)]
-pub extern "C" fn mastarik_grant(
+pub fn mastarik_grant(
     table: &mut [u8],
     claim: Claim,
     list: &[u8],
@@ -49,8 +46,7 @@ pub extern "C" fn mastarik_grant(
     of_reply(desk::grant(table, asked, list, groups, who, what, guard))
 }
 
-#[unsafe(no_mangle)]
-pub extern "C" fn mastarik_grant_widest(
+pub fn mastarik_grant_widest(
     table: &mut [u8],
     claim: Claim,
     list: &[u8],
@@ -67,22 +63,19 @@ pub extern "C" fn mastarik_grant_widest(
     of_reply(desk::grant_widest(table, asked, list, groups, who, what, guard))
 }
 
-#[unsafe(no_mangle)]
-pub extern "C" fn mastarik_return(table: &mut [u8], host: u16, number: u64, types: u16) -> Answer
+pub fn mastarik_return(table: &mut [u8], host: u16, number: u64, types: u16) -> Answer
     ensures { Returns table.old host number types result table.new }
 {
     of_reply(desk::give_back(table, host, number, types))
 }
 
-#[unsafe(no_mangle)]
-pub extern "C" fn mastarik_drop_host(table: &mut [u8], host: u16) -> Answer
+pub fn mastarik_drop_host(table: &mut [u8], host: u16) -> Answer
     ensures { DropsHost table.old host result table.new }
 {
     of_reply(desk::drop_host(table, host))
 }
 
-#[unsafe(no_mangle)]
-pub extern "C" fn mastarik_audit(table: &[u8]) -> Answer
+pub fn mastarik_audit(table: &[u8]) -> Answer
     ensures { Audits table.now result }
 {
     of_truth(desk::audit(table))

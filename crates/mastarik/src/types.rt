@@ -4,8 +4,7 @@ ghost use Rattle.mastarik.specs.Types.{TellsNeeds};
 use access::needed_rights;
 use exchange::{Answer, of_value};
 
-#[unsafe(no_mangle)]
-pub extern "C" fn mastarik_needs(types: u16, dir: u8) -> Answer
+pub fn mastarik_needs(types: u16, dir: u8) -> Answer
     ensures { TellsNeeds types dir result }
 {
     of_value(needed_rights(types, dir != 0) as u64)

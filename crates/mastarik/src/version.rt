@@ -4,8 +4,7 @@ ghost use Rattle.mastarik.specs.Version.{TellsVersion};
 // 2.0.0: ten thousands, hundreds, ones.
 const VERSION: u32 = 20000;
 
-#[unsafe(no_mangle)]
-pub extern "C" fn mastarik_version() -> u32
+pub fn mastarik_version() -> u32
     ensures { TellsVersion result }
 {
     VERSION
