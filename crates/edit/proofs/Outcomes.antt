@@ -5,7 +5,7 @@ use mathlib.Core.Bool.{true}
 use Prim.Native.Nat.{ℕ, ◌+◌, ◌<◌}
 use native.Mathlib.Omega.{arith}
 use lib.ListN.{length}
-use Rattle.words.specs.Said.{Said, done, refused, and_then, left}
+use Rattle.words.specs.Said.{Said, done, and_then, left}
 use Rattle.words.specs.Number.{Bytes}
 use Rattle.records.specs.Kind.{size as size_of}
 use Rattle.entry.specs.Entry.{is_entry, record_for}

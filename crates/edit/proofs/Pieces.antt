@@ -1,12 +1,12 @@
 -- What is written: a copy, and the record of an entry part by part. Assumes nothing.
 use mathlib.Core.Path.{◌≡◌, refl, sym, ◌∙◌, ap}
-use mathlib.Core.List.{List, [], ◌∷◌, ◌++◌, append_assoc, append-nil}
+use mathlib.Core.List.{List, [], ◌∷◌, ◌++◌, append_assoc}
 use mathlib.Core.Bool.{Bool, true, false}
 use Prim.Native.Nat.{ℕ, ◌+◌, ◌-◌, ◌≤◌, ◌<◌}
 use native.Mathlib.Omega.{arith}
 use borrow.Author.Tests.{eq-eqb, ne_eqb}
 use lib.Dec.{eqb, ltb}
-use lib.ListN.{length, take, drop, set, length-append, length-drop, drop_of_length-le}
+use lib.ListN.{length, take, drop, set, length-append}
 use lib.Seq.{drop-drop}
 use Rattle.words.specs.Test.{if◌then◌else◌}
 use Rattle.words.specs.Number.{within}

@@ -14,7 +14,6 @@ use Rattle.words.specs.Number.{Bytes}
 use Rattle.words.specs.Realm.{realm_at}
 use Rattle.words.specs.declared.realm.Realm.{Realm}
 use Rattle.words.proofs.Tests.{Each}
-use Rattle.records.specs.Kind.{size}
 use Rattle.records.specs.Reading.{read_of, when_whole}
 use Rattle.list.specs.Fault.{no_record, fault}
 use Rattle.list.specs.Checking.{Found, found, cut_from, cut, Placed, placed, wholes, records, passed, faults_after, check_says}

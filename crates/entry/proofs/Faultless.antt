@@ -14,7 +14,7 @@ use Rattle.words.proofs.Tests.{Each}
 use Rattle.records.specs.Reading.{when_whole}
 use Rattle.records.specs.Standing.{rises, is_forbidden}
 use Rattle.list.specs.Fault.{fault}
-use Rattle.list.specs.Checking.{found, placed, records, refused_at, passed, faults_after, has}
+use Rattle.list.specs.Checking.{found, placed, refused_at, passed, faults_after, has}
 use Rattle.records.specs.declared.records.Record.{Record}
 use Rattle.records.specs.declared.records.Read.TheVariants.{Whole}
 use Rattle.list.proofs.Passed.{Sound}

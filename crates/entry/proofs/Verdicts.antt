@@ -8,7 +8,7 @@ use native.Mathlib.Omega.{arith}
 use borrow.Author.Tests.{eqb-true, eqb-false, ltb-false, lt-ltb, le-ltb}
 use lib.Dec.{eqb, leb, ltb}
 use lib.ListN.{length}
-use Rattle.words.specs.Test.{if◌then◌else◌, those}
+use Rattle.words.specs.Test.{if◌then◌else◌}
 use Rattle.words.specs.Said.{done, refused, and_then}
 use Rattle.words.specs.Number.{Bytes}
 use Rattle.words.specs.Realm.{zero_realm, realm_at}

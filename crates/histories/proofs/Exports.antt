@@ -20,7 +20,7 @@ use Rattle.table.specs.Fill.{fill_says, Fills as FillsTable}
 use Rattle.table.specs.Call.{says_of}
 use Rattle.table.specs.declared.reply.Reply.{Reply}
 use Rattle.table.specs.declared.reply.Reply.TheVariants.{Done, Value, Granted, Refused}
-use Rattle.returns.specs.Return.{return_says, returned, Returns as ReturnsTypes}
+use Rattle.returns.specs.Return.{return_says, Returns as ReturnsTypes}
 use Rattle.returns.specs.DropHost.{drop_says, Drops as DropsTable}
 use Rattle.audit.specs.Audit.{sound}
 use Rattle.access.specs.Access.{Access}

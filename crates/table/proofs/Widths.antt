@@ -2,7 +2,6 @@
 use mathlib.Core.Path.{◌≡◌, refl}
 use Prim.Native.Nat.{ℕ}
 use lib.ListN.{length, length-append}
-use Rattle.words.specs.Writing.{digits}
 use Rattle.words.proofs.Written.{digits_length}
 use Rattle.claims.specs.declared.claim.FileId.{FileId}
 use Rattle.claims.specs.declared.claim.Claim.{Claim}

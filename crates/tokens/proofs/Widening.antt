@@ -7,7 +7,7 @@ use Prim.Native.Nat.{ℕ, ◌≤◌}
 use borrow.Author.Tests.{eqb-true, not-false}
 use lib.Dec.{eqb}
 use Rattle.words.specs.Test.{any_of}
-use Rattle.words.specs.Said.{refused, is_done}
+use Rattle.words.specs.Said.{is_done}
 use Rattle.words.specs.Number.{Bytes}
 use Rattle.words.proofs.Tests.{differ, Each, none_any}
 use Rattle.words.proofs.Left.{left_whole}

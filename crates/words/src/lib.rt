@@ -1,5 +1,6 @@
 // Numbers and realms in bytes: big-endian, read and compared.
 #![tactic(auto)]
+
 mod number;
 mod realm;
 

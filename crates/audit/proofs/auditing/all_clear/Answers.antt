@@ -1,11 +1,11 @@
 use mathlib.Core.Path.{◌∙◌, ap}
-use Prim.Native.Nat.{◌+◌, ◌-◌, ◌*◌}
+use Prim.Native.Nat.{◌+◌, ◌*◌}
 use native.Mathlib.Omega.{arith}
 use Rattle.words.proofs.Digits.{lent_part}
 use Rattle.table.specs.Layout.{width, slot_of}
 use Rattle.table.proofs.Cuts.{sized}
 use Rattle.table.proofs.Determined.{slot_is}
-use Rattle.audit.proofs.Pairs.{Clear, none_clear, one_clear, one_unclear, all_clear}
+use Rattle.audit.proofs.Pairs.{none_clear, one_clear, one_unclear, all_clear}
 use Rattle.audit.proofs.auditing.all_clear.Goals as goal
 
 pub overflow_sub-n : goal.overflow_sub-n

@@ -1,11 +1,11 @@
 use mathlib.Core.Path.{◌∙◌, ap}
-use Prim.Native.Nat.{◌+◌, ◌-◌, ◌*◌}
+use Prim.Native.Nat.{◌+◌, ◌*◌}
 use native.Mathlib.Omega.{arith}
 use Rattle.words.proofs.Digits.{lent_part}
 use Rattle.table.specs.Layout.{width, slot_of}
 use Rattle.table.specs.declared.slot.Slot.TheVariants.{Held}
 use Rattle.table.proofs.Determined.{slot_is}
-use Rattle.audit.proofs.Pairs.{Beside, none_beside, one_beside, one_against, all_beside}
+use Rattle.audit.proofs.Pairs.{none_beside, one_beside, one_against, all_beside}
 use Rattle.audit.proofs.auditing.are_apart.Goals as goal
 
 pub loop-i-init : goal.loop-i-init

@@ -1,4 +1,4 @@
-use Rattle.std.proofs.Common.{◌-◌, ◌≤◌, length, arith}
+use Rattle.std.proofs.Common.{arith}
 use Rattle.console.proofs.spaced.count.Goals as goal
 
 pub loop-at-smaller : goal.loop-at-smaller

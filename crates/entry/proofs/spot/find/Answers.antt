@@ -1,8 +1,6 @@
-use Prim.Native.Nat.{◌-◌}
 use native.Mathlib.Omega.{arith}
 use borrow.Author.Rules.{part_to_end}
-use lib.ListN.{length}
-use Rattle.entry.proofs.Spots.{first_of, Reached, starts, is_entry_kind, enough, goes_on, goes, stops_same, stops_after, spotted, ends}
+use Rattle.entry.proofs.Spots.{first_of, starts, is_entry_kind, enough, goes_on, goes, stops_same, stops_after, spotted, ends}
 use Rattle.entry.proofs.spot.find.Goals as goal
 
 pub loop-at-init : goal.loop-at-init

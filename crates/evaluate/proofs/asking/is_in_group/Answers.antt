@@ -1,7 +1,5 @@
-use mathlib.Core.Path.{◌≡◌, refl, ◌∙◌}
-use Prim.Native.Nat.{◌-◌}
-use lib.ListN.{length, drop}
-use Rattle.evaluate.proofs.Groups.{among, none_left, here, not_here, primary, further}
+use mathlib.Core.Path.{refl, ◌∙◌}
+use Rattle.evaluate.proofs.Groups.{none_left, here, not_here, primary, further}
 use Rattle.evaluate.proofs.asking.is_in_group.Goals as goal
 
 pub returns-then-caller-id : goal.returns-then-caller-id

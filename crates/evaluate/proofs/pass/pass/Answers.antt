@@ -1,12 +1,9 @@
 use mathlib.Core.Path.{◌∙◌, ap}
-use Prim.Native.Nat.{◌-◌}
-use lib.ListN.{length}
 use Rattle.list.specs.Checking.{placed}
 use Rattle.list.specs.Walking.{start_of}
 use Rattle.list.specs.declared.walk.Walk.{Walk}
-use Rattle.list.proofs.Runs.{Leads, starts, goes, falls, refuses, passes_all, gathers_all}
+use Rattle.list.proofs.Runs.{starts, goes, falls, refuses, passes_all, gathers_all}
 use Rattle.evaluate.specs.Asking.{of_default_realm}
-use Rattle.evaluate.specs.Steps.{steps}
 use Rattle.evaluate.specs.Tally.{no_tally, tallying}
 use Rattle.evaluate.proofs.Passing.{ends_refused, ends_fine}
 use Rattle.evaluate.proofs.pass.pass.Goals as goal

@@ -1,4 +1,3 @@
-use borrow.Author.Tests.{not-true, not-false}
 use Rattle.records.specs.Standing.{is_forbidden}
 use Rattle.records.proofs.standing.is_forbidden.Goals as goal
 

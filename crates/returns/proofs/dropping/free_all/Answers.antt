@@ -1,7 +1,6 @@
-use Prim.Native.Nat.{◌-◌}
 use native.Mathlib.Omega.{arith}
 use Rattle.table.proofs.Tables.{form_size}
-use Rattle.returns.proofs.Freed.{Freeing, none_freed, kept_length, one_freed, all_freed, at_most_one}
+use Rattle.returns.proofs.Freed.{none_freed, kept_length, one_freed, all_freed, at_most_one}
 use Rattle.returns.proofs.dropping.free_all.Goals as goal
 
 pub overflow_sub-n : goal.overflow_sub-n

@@ -1,12 +1,12 @@
 use mathlib.Core.Path.{◌∙◌, ap}
-use Prim.Native.Nat.{◌+◌, ◌-◌, ◌*◌}
+use Prim.Native.Nat.{◌+◌, ◌*◌}
 use native.Mathlib.Omega.{arith}
 use Rattle.words.proofs.Digits.{lent_part}
 use Rattle.table.specs.Layout.{width, slot_of}
 use Rattle.table.proofs.Cuts.{sized}
 use Rattle.table.proofs.Determined.{slot_is}
 use Rattle.returns.specs.Return.{is_of}
-use Rattle.returns.proofs.Sought.{Missed, none_missed, one_missed, found_here, found_nowhere}
+use Rattle.returns.proofs.Sought.{none_missed, one_missed, found_here, found_nowhere}
 use Rattle.returns.proofs.returning.find.Goals as goal
 
 pub overflow_sub-n : goal.overflow_sub-n

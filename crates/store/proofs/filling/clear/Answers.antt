@@ -1,6 +1,5 @@
-use Prim.Native.Nat.{◌-◌}
 use native.Mathlib.Omega.{arith}
-use Rattle.store.proofs.Fresh.{Cleared, none_cleared, one_cleared, all_cleared}
+use Rattle.store.proofs.Fresh.{none_cleared, one_cleared, all_cleared}
 use Rattle.store.proofs.filling.clear.Goals as goal
 
 pub loop-i-init : goal.loop-i-init

@@ -1,12 +1,12 @@
 use mathlib.Core.Path.{◌∙◌, ap}
-use Prim.Native.Nat.{◌+◌, ◌-◌, ◌*◌}
+use Prim.Native.Nat.{◌+◌, ◌*◌}
 use native.Mathlib.Omega.{arith}
 use Rattle.words.proofs.Digits.{lent_part}
 use Rattle.table.specs.Layout.{width, slot_of}
 use Rattle.table.specs.Form.{is_slot}
 use Rattle.table.proofs.Cuts.{sized}
 use Rattle.table.proofs.Determined.{slot_is}
-use Rattle.surveys.proofs.Surveyed.{Looked, none_looked, few_conflicts, one_looked, ill_looked, all_looked}
+use Rattle.surveys.proofs.Surveyed.{none_looked, few_conflicts, one_looked, ill_looked, all_looked}
 use Rattle.surveys.proofs.scan.survey_slots.Goals as goal
 
 pub overflow_sub-n : goal.overflow_sub-n

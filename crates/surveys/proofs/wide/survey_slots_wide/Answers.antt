@@ -1,5 +1,5 @@
 use mathlib.Core.Path.{refl, sym, ◌∙◌, ap}
-use Prim.Native.Nat.{◌+◌, ◌-◌, ◌*◌}
+use Prim.Native.Nat.{◌+◌, ◌*◌}
 use native.Mathlib.Omega.{arith}
 use Rattle.words.proofs.Tests.{differ}
 use Rattle.words.proofs.Digits.{lent_part}
@@ -8,7 +8,7 @@ use Rattle.table.specs.Form.{is_slot}
 use Rattle.table.proofs.Cuts.{sized}
 use Rattle.table.proofs.Determined.{slot_is}
 use Rattle.widest.proofs.Narrowed.{none_narrowed, one_narrowed, all_narrowed}
-use Rattle.surveys.proofs.Surveyed.{LookedWide, none_looked, few_conflicts, one_looked, ill_looked, all_looked}
+use Rattle.surveys.proofs.Surveyed.{none_looked, few_conflicts, one_looked, ill_looked, all_looked}
 use Rattle.surveys.proofs.wide.survey_slots_wide.Goals as goal
 
 pub overflow_sub-n : goal.overflow_sub-n

@@ -1,10 +1,10 @@
 use mathlib.Core.Path.{◌∙◌, ap}
-use Prim.Native.Nat.{◌-◌, ◌+◌, ◌*◌}
+use Prim.Native.Nat.{◌+◌, ◌*◌}
 use native.Mathlib.Omega.{arith}
 use Rattle.words.proofs.Digits.{lent_part}
 use Rattle.table.specs.Layout.{width}
 use Rattle.table.specs.Form.{is_slot}
-use Rattle.table.proofs.Scans.{Checked, none_checked, one_checked, one_bad, all_checked}
+use Rattle.table.proofs.Scans.{none_checked, one_checked, one_bad, all_checked}
 use Rattle.table.proofs.Cuts.{sized}
 use Rattle.table.proofs.form.are_slots.Goals as goal
 

@@ -1,10 +1,10 @@
 use mathlib.Core.Path.{◌∙◌, ap}
-use Prim.Native.Nat.{◌+◌, ◌-◌, ◌*◌}
+use Prim.Native.Nat.{◌+◌, ◌*◌}
 use native.Mathlib.Omega.{arith}
 use Rattle.words.proofs.Digits.{lent_part}
-use Rattle.table.specs.Layout.{width, slot_of, count}
+use Rattle.table.specs.Layout.{width, slot_of}
 use Rattle.table.proofs.Determined.{slot_is}
-use Rattle.tokens.proofs.Listed.{Noted, none_noted, slots_left, room_left, one_noted, all_noted}
+use Rattle.tokens.proofs.Listed.{none_noted, slots_left, room_left, one_noted, all_noted}
 use Rattle.tokens.proofs.asking.list_all.Goals as goal
 
 pub loop-at-init : goal.loop-at-init
