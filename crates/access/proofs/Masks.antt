@@ -1,11 +1,11 @@
 -- The needed rights as the code tells them, by masks. Assumes nothing.
+use Rattle.std.specs.Prelude.{if◌then◌else◌}
 use mathlib.Core.Path.{◌≡◌, refl}
 use mathlib.Core.Bool.{Bool, true, false, not}
 use Prim.Native.Nat.{ℕ, ◌%◌}
 use native.Mathlib.Omega.{arith}
 use lib.Bits.{bit_and, bit_or}
 use lib.Dec.{eqb}
-use Rattle.words.specs.Test.{if◌then◌else◌}
 use Rattle.words.specs.Bit.{bit}
 use Rattle.rights.specs.Right.{read, write, control, insert, delete}
 use Rattle.claims.specs.Types.{set_below, some_below}

@@ -1,7 +1,6 @@
 -- Access judged: 23, 10 to 19, 22, then 24.
-use Rattle.std.specs.Prelude.{◌≡◌, not, List, [], ℕ, eqb, get_or}
+use Rattle.std.specs.Prelude.{◌≡◌, not, List, [], ℕ, eqb, get_or, if◌then◌else◌}
 use Rattle.std.specs.Int.Bits.{bit_and}
-use Rattle.words.specs.Test.{if◌then◌else◌}
 use Rattle.words.specs.Said.{Said, done, refused}
 use Rattle.evaluate.specs.declared.asking.Caller.{Caller}
 use Rattle.evaluate.specs.declared.asking.File.{File}

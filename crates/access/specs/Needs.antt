@@ -1,7 +1,6 @@
 -- The rights that types need.
-use Rattle.std.specs.Prelude.{◌≡◌, Bool, ◌&&◌, List, [], ◌∷◌, ℕ, eqb, get_or}
+use Rattle.std.specs.Prelude.{◌≡◌, Bool, ◌&&◌, List, [], ◌∷◌, ℕ, eqb, get_or, if◌then◌else◌}
 use Rattle.std.specs.Int.Bits.{bit_or}
-use Rattle.words.specs.Test.{if◌then◌else◌}
 use Rattle.words.specs.Bit.{bit}
 use Rattle.rights.specs.Right.{read, write, control, insert, delete}
 use Rattle.claims.specs.Types.{set_below, some_type}

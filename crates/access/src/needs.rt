@@ -1,7 +1,6 @@
 // The rights that types need.
-ghost use Rattle.std.specs.Prelude.{◌≡◌};
+ghost use Rattle.std.specs.Prelude.{◌≡◌, if◌then◌else◌};
 ghost use Rattle.std.specs.Int.Bits.{bit_or};
-ghost use Rattle.words.specs.Test.{if◌then◌else◌};
 ghost use Rattle.rights.specs.Right.{write, insert, delete};
 ghost use Rattle.access.specs.Needs.{Needs};
 

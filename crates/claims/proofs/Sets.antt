@@ -1,4 +1,5 @@
 -- What the numbers of specs/Types say as sets. Assumes nothing.
+use Rattle.std.specs.Prelude.{if◌then◌else◌}
 use mathlib.Core.Path.{◌≡◌, refl, sym, ◌∙◌}
 use mathlib.Core.Bool.{Bool, true, false}
 use mathlib.Core.Logic.{◌⊎◌, inl, inr, ◌≢◌}
@@ -8,7 +9,6 @@ use borrow.Author.Tests.{eqb-true, eqb-false, eq-eqb, ne_eqb}
 use lib.Arith.{bin_ind}
 use lib.Bits.{bit_and, and_le_r}
 use lib.Dec.{eqb}
-use Rattle.words.specs.Test.{if◌then◌else◌}
 use Rattle.words.specs.Bit.{bit}
 use Rattle.words.proofs.Tests.{differ, and_left, and_both, or_one, one_or, same_test}
 use Rattle.words.proofs.Bits.{bit_first, bit_next, bit-bit_and}

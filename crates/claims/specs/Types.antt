@@ -1,6 +1,5 @@
 -- Sets of types, as numbers: type i is in a set where bit i is 1.
-use Rattle.std.specs.Prelude.{Bool, false, not, ◌||◌, ◌&&◌, ℕ, zero, suc, ◌+◌, ◌*◌}
-use Rattle.words.specs.Test.{if◌then◌else◌}
+use Rattle.std.specs.Prelude.{Bool, false, not, ◌||◌, ◌&&◌, ℕ, zero, suc, ◌+◌, ◌*◌, if◌then◌else◌}
 use Rattle.words.specs.Bit.{bit}
 
 -- how many types there are: type 0 is bit 1, data read; type 7 is bit 128, open exclusive

@@ -1,9 +1,9 @@
 -- A request that is permitted goes on to the call's own; one that is not is refused after 30 and 31. Assumes nothing.
+use Rattle.std.specs.Prelude.{if◌then◌else◌}
 use mathlib.Core.Path.{◌≡◌, refl, sym, ◌∙◌}
 use mathlib.Core.Bool.{Bool, true, false}
 use mathlib.Core.List.{List, [], ◌∷◌}
 use Prim.Native.Nat.{ℕ}
-use Rattle.words.specs.Test.{if◌then◌else◌}
 use Rattle.words.specs.Said.{Said, done, refused, is_done, and_then}
 use Rattle.words.proofs.Tests.{differ}
 use Rattle.words.proofs.Left.{left_kept}

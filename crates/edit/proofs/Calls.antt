@@ -1,4 +1,5 @@
 -- One call after the other: what an edit that is not refused leaves, and what a second edit makes of it. Assumes nothing.
+use Rattle.std.specs.Prelude.{if◌then◌else◌}
 use mathlib.Core.Path.{◌≡◌, refl, sym, ◌∙◌, ap}
 use mathlib.Core.List.{List, [], ◌∷◌}
 use mathlib.Core.Bool.{Bool, true, false}
@@ -8,7 +9,6 @@ use borrow.Author.Tests.{le-ltb}
 use lib.Dec.{ltb}
 use lib.ListN.{length, take, drop}
 use lib.Seq.{take_at}
-use Rattle.words.specs.Test.{if◌then◌else◌}
 use Rattle.words.specs.Said.{Said, done, refused, and_then, left}
 use Rattle.words.specs.Number.{Bytes}
 use Rattle.list.specs.Checking.{check_says}

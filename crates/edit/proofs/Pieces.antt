@@ -1,4 +1,5 @@
 -- What is written: a copy, and the record of an entry part by part. Assumes nothing.
+use Rattle.std.specs.Prelude.{if◌then◌else◌}
 use mathlib.Core.Path.{◌≡◌, refl, sym, ◌∙◌, ap}
 use mathlib.Core.List.{List, [], ◌∷◌, ◌++◌, append_assoc}
 use mathlib.Core.Bool.{Bool, true, false}
@@ -8,7 +9,6 @@ use borrow.Author.Tests.{eq-eqb, ne_eqb}
 use lib.Dec.{eqb, ltb}
 use lib.ListN.{length, take, drop, set, length-append}
 use lib.Seq.{drop-drop}
-use Rattle.words.specs.Test.{if◌then◌else◌}
 use Rattle.words.specs.Number.{within}
 use Rattle.words.specs.Writing.{digits, over, written}
 use Rattle.words.specs.Realm.{zero_realm, realm_bytes}

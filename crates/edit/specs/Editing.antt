@@ -1,6 +1,5 @@
 -- Editing a list: one entry put or dropped, the whole new list written to a second buffer.
-use Rattle.std.specs.Prelude.{◌≡◌, List, [], ◌∷◌, ℕ, ltb, length}
-use Rattle.words.specs.Test.{if◌then◌else◌}
+use Rattle.std.specs.Prelude.{◌≡◌, List, [], ◌∷◌, ℕ, ltb, length, if◌then◌else◌}
 use Rattle.words.specs.Said.{Said, done, refused, and_then, left}
 use Rattle.entry.specs.NewList.{putting, dropping}
 use Rattle.entry.specs.Plan.{put_judged, drop_judged}

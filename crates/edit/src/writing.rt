@@ -1,6 +1,5 @@
 // Writing the new list to the second buffer.
-ghost use Rattle.std.specs.Prelude.{◌≡◌, true, [], ◌+◌, ◌≤◌, ltb, length};
-ghost use Rattle.words.specs.Test.{if◌then◌else◌};
+ghost use Rattle.std.specs.Prelude.{◌≡◌, true, [], ◌+◌, ◌≤◌, ltb, length, if◌then◌else◌};
 ghost use Rattle.words.specs.Writing.{digits, over, written};
 ghost use Rattle.words.specs.Realm.{realm_bytes};
 ghost use Rattle.records.specs.Kind.{size as size_of};

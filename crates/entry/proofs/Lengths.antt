@@ -1,4 +1,5 @@
 -- The lengths of an entry's parts, by its kind. Assumes nothing.
+use Rattle.std.specs.Prelude.{if◌then◌else◌}
 use mathlib.Core.Path.{◌≡◌, refl, sym, ◌∙◌}
 use mathlib.Core.List.{List}
 use mathlib.Core.Bool.{Bool, true, not, ◌||◌}
@@ -7,7 +8,6 @@ use native.Mathlib.Omega.{arith}
 use borrow.Author.Tests.{eqb-true, leb-true, lt-ltb, le-ltb}
 use lib.Dec.{eqb, leb, ltb}
 use lib.ListN.{get_or}
-use Rattle.words.specs.Test.{if◌then◌else◌}
 use Rattle.words.specs.Number.{number_at}
 use Rattle.words.specs.Realm.{realm_at}
 use Rattle.words.proofs.Tests.{and_left, and_right}

@@ -1,11 +1,11 @@
 -- What a plan tells: an edit that is not refused, and where its bytes go; or the refusal. Assumes nothing.
+use Rattle.std.specs.Prelude.{if◌then◌else◌}
 use mathlib.Core.Path.{◌≡◌, refl, sym}
 use mathlib.Core.List.{List, [], ◌∷◌}
 use mathlib.Core.Bool.{Bool, true, false, not}
 use Prim.Native.Nat.{ℕ}
 use native.Mathlib.Omega.{arith}
 use lib.ListN.{length}
-use Rattle.words.specs.Test.{if◌then◌else◌}
 use Rattle.words.specs.Said.{Said, done, refused, and_then}
 use Rattle.records.specs.Kind.{size}
 use Rattle.list.specs.Checking.{check_says}

@@ -1,4 +1,5 @@
 -- Where a record stands by another: by what was tested, and what follows. Assumes nothing.
+use Rattle.std.specs.Prelude.{if◌then◌else◌}
 use mathlib.Core.Path.{◌≡◌, refl, sym, ◌∙◌}
 use mathlib.Core.List.{List}
 use mathlib.Core.Bool.{Bool, true, false}
@@ -6,7 +7,6 @@ use Prim.Native.Nat.{ℕ, ◌≤◌, ◌<◌}
 use native.Mathlib.Omega.{arith}
 use borrow.Author.Tests.{leb-true, lt-ltb}
 use lib.ListN.{get_or}
-use Rattle.words.specs.Test.{if◌then◌else◌}
 use Rattle.words.proofs.Tests.{and_left}
 use Rattle.records.specs.Reading.{record_of}
 use Rattle.records.specs.Standing.{body_rises, rises}

@@ -1,11 +1,12 @@
 -- Records in their order, and an entry's record among them. Assumes nothing.
+use Rattle.std.specs.Prelude.{if◌then◌else◌}
 use mathlib.Core.Path.{◌≡◌, refl, sym, ◌∙◌}
 use mathlib.Core.List.{List, [], ◌∷◌, map}
 use mathlib.Core.Bool.{Bool, true, false, cond}
 use Prim.Native.Nat.{ℕ, ◌<◌}
 use borrow.Author.Tests.{eqb-true, eq-eqb}
 use lib.Dec.{eqb}
-use Rattle.words.specs.Test.{if◌then◌else◌, those}
+use Rattle.words.specs.Test.{those}
 use Rattle.words.specs.Said.{done}
 use Rattle.words.specs.Realm.{realm_at, same_realm}
 use Rattle.words.specs.declared.realm.Realm.{Realm}

@@ -1,4 +1,5 @@
 -- A record in bytes: what is spelled is read again, and what was read is spelled as it stood. Assumes nothing.
+use Rattle.std.specs.Prelude.{if◌then◌else◌}
 use mathlib.Core.Path.{◌≡◌, refl, sym, ◌∙◌, ap, subst}
 use mathlib.Core.List.{List, [], ◌∷◌, ◌++◌, append_assoc}
 use mathlib.Core.Bool.{Bool, true, false}
@@ -8,7 +9,6 @@ use borrow.Author.Tests.{eqb-true, ne_eqb, le-ltb}
 use lib.Dec.{eqb}
 use lib.ListN.{length, get_or, take, length-append}
 use lib.Seq.{drop-cons, get_or_at}
-use Rattle.words.specs.Test.{if◌then◌else◌}
 use Rattle.words.specs.Number.{Bytes, part, number_at}
 use Rattle.words.specs.Writing.{digits}
 use Rattle.words.specs.Realm.{zero_realm, realm_at, realm_bytes}

@@ -1,10 +1,11 @@
 -- Records in order are those that come before an entry's record, the same one where there is one, and those that come after it. Assumes
 -- nothing.
+use Rattle.std.specs.Prelude.{if◌then◌else◌}
 use mathlib.Core.Path.{◌≡◌, refl, sym, ◌∙◌, ap}
 use mathlib.Core.List.{List, [], ◌∷◌, ◌++◌, append_assoc}
 use mathlib.Core.Bool.{Bool, true, false, not}
 use Prim.Native.Nat.{ℕ, ◌<◌}
-use Rattle.words.specs.Test.{if◌then◌else◌, those}
+use Rattle.words.specs.Test.{those}
 use Rattle.words.specs.declared.realm.Realm.{Realm}
 use Rattle.words.proofs.Tests.{Each, each_so, those_append, those_all, those_none, those_pass}
 use Rattle.records.specs.Standing.{rises}

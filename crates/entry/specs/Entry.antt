@@ -1,6 +1,5 @@
 -- The entry of an edit: kind, realm, id and rights byte, given as numbers.
-use Rattle.std.specs.Prelude.{Bool, ◌&&◌, ℕ, eqb, leb}
-use Rattle.words.specs.Test.{if◌then◌else◌}
+use Rattle.std.specs.Prelude.{Bool, ◌&&◌, ℕ, eqb, leb, if◌then◌else◌}
 use Rattle.words.specs.Realm.{zero_realm}
 use Rattle.records.specs.Kind.{body_of, size}
 use Rattle.records.specs.declared.records.Record.{Record}

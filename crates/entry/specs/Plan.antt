@@ -1,6 +1,6 @@
 -- What an edit comes to, before a byte is written.
-use Rattle.std.specs.Prelude.{◌≡◌, List, [], ◌∷◌, not, ℕ, length}
-use Rattle.words.specs.Test.{if◌then◌else◌, those}
+use Rattle.std.specs.Prelude.{◌≡◌, List, [], ◌∷◌, not, ℕ, length, if◌then◌else◌}
+use Rattle.words.specs.Test.{those}
 use Rattle.words.specs.Said.{Said, done, refused, and_then}
 use Rattle.records.specs.Kind.{size}
 use Rattle.records.specs.Standing.{rises}

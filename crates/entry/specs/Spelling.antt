@@ -1,6 +1,5 @@
 -- Records in bytes.
-use Rattle.std.specs.Prelude.{List, [], ◌∷◌, ◌++◌, ℕ, eqb}
-use Rattle.words.specs.Test.{if◌then◌else◌}
+use Rattle.std.specs.Prelude.{List, [], ◌∷◌, ◌++◌, ℕ, eqb, if◌then◌else◌}
 use Rattle.words.specs.Writing.{digits}
 use Rattle.words.specs.Realm.{realm_bytes}
 use Rattle.records.specs.Kind.{body_of}

@@ -1,7 +1,6 @@
 -- Contracts of the crate's own functions: an entry's record, where it stands by another, and the verdict on the new list without it being
 -- there yet.
-use Rattle.std.specs.Prelude.{◌≡◌, List, [], ◌∷◌, Bool, true, not, ◌&&◌, ℕ, ◌^◌, ◌≤◌, ◌<◌, eqb, leb, ltb}
-use Rattle.words.specs.Test.{if◌then◌else◌}
+use Rattle.std.specs.Prelude.{◌≡◌, List, [], ◌∷◌, Bool, true, not, ◌&&◌, ℕ, ◌^◌, ◌≤◌, ◌<◌, eqb, leb, ltb, if◌then◌else◌}
 use Rattle.words.specs.Said.{Said, done, refused}
 use Rattle.words.specs.Realm.{realm_at}
 use Rattle.records.specs.Kind.{size, wants_mask}

@@ -1,6 +1,5 @@
 // The entry of an edit, and the record that it says.
-ghost use Rattle.std.specs.Prelude.{◌≡◌, true, ◌≤◌, eqb};
-ghost use Rattle.words.specs.Test.{if◌then◌else◌};
+ghost use Rattle.std.specs.Prelude.{◌≡◌, true, ◌≤◌, eqb, if◌then◌else◌};
 ghost use Rattle.words.specs.Realm.{zero_realm};
 ghost use Rattle.records.specs.Kind.{body_of};
 ghost use Rattle.entry.specs.Entry.{is_entry};

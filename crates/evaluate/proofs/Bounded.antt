@@ -1,4 +1,5 @@
 -- A list that passes gives none but the six rights. Assumes nothing.
+use Rattle.std.specs.Prelude.{if◌then◌else◌}
 use mathlib.Core.Path.{◌≡◌}
 use mathlib.Core.List.{List, [], ◌∷◌, foldl}
 use mathlib.Core.Bool.{Bool, true, false}
@@ -6,7 +7,7 @@ use Prim.Native.Nat.{ℕ, ◌<◌}
 use native.Mathlib.Omega.{arith}
 use borrow.Author.Tests.{ltb-false}
 use lib.Bits.{bit_and, bit_or, and_le_l, or_lt}
-use Rattle.words.specs.Test.{if◌then◌else◌, those}
+use Rattle.words.specs.Test.{those}
 use Rattle.words.specs.Said.{done}
 use Rattle.words.specs.Realm.{realm_at}
 use Rattle.words.specs.declared.realm.Realm.{Realm}

@@ -1,11 +1,11 @@
 -- The deciding record lies within the list. Assumes nothing.
+use Rattle.std.specs.Prelude.{if◌then◌else◌}
 use mathlib.Core.List.{List, [], ◌∷◌}
 use mathlib.Core.Bool.{Bool, true, false}
 use Prim.Native.Nat.{ℕ, ◌+◌, ◌≤◌}
 use native.Mathlib.Omega.{arith}
 use lib.Dec.{ltb}
 use lib.ListN.{length}
-use Rattle.words.specs.Test.{if◌then◌else◌}
 use Rattle.words.specs.Said.{Said, done, refused}
 use Rattle.words.specs.Realm.{realm_at}
 use Rattle.words.proofs.Tests.{Each}

@@ -1,4 +1,5 @@
 -- Where the mask is: every step but 1 and 4. Assumes nothing.
+use Rattle.std.specs.Prelude.{if◌then◌else◌}
 use mathlib.Core.Path.{◌≡◌, refl, sym, ◌∙◌, ap}
 use mathlib.Core.List.{List, [], ◌∷◌, ◌++◌, foldl}
 use mathlib.Core.Bool.{Bool, true, false, not, ◌||◌}
@@ -7,7 +8,7 @@ use native.Mathlib.Nat.{mod-eq_of_lt}
 use borrow.Author.Tests.{ne_eqb}
 use lib.Bits.{bit_and, and_zero_l, and_mask}
 use lib.Dec.{eqb}
-use Rattle.words.specs.Test.{if◌then◌else◌, those}
+use Rattle.words.specs.Test.{those}
 use Rattle.words.specs.Bit.{bit}
 use Rattle.words.proofs.Tests.{and_left, and_right}
 use Rattle.words.proofs.Bits.{bit-bit_and, and_assoc}

@@ -1,11 +1,11 @@
 -- Which step a record serves, by its kind. Assumes nothing.
+use Rattle.std.specs.Prelude.{if◌then◌else◌}
 use mathlib.Core.Path.{◌≡◌}
 use mathlib.Core.List.{List}
 use mathlib.Core.Bool.{true, false, and-true, and-false, or-false}
 use Prim.Native.Nat.{ℕ}
 use borrow.Author.Tests.{ne_eqb}
 use lib.Dec.{eqb}
-use Rattle.words.specs.Test.{if◌then◌else◌}
 use Rattle.words.specs.Realm.{same_realm}
 use Rattle.records.specs.declared.records.Record.{Record}
 use Rattle.evaluate.specs.Asking.{in_group}

@@ -1,8 +1,8 @@
 -- Rights from a list: the seven steps, and the rule that the first that applies decides.
 use mathlib.Core.List.{List, [], ◌∷◌, foldl}
-use Rattle.std.specs.Prelude.{Bool, true, false, not, ◌||◌, ◌&&◌, ℕ, suc, eqb}
+use Rattle.std.specs.Prelude.{Bool, true, false, not, ◌||◌, ◌&&◌, ℕ, suc, eqb, if◌then◌else◌}
 use Rattle.std.specs.Int.Bits.{bit_and, bit_or}
-use Rattle.words.specs.Test.{if◌then◌else◌, those}
+use Rattle.words.specs.Test.{those}
 use Rattle.words.specs.Realm.{same_realm}
 use Rattle.list.specs.Fault.{no_record}
 use Rattle.list.specs.Checking.{Placed, placed}

@@ -1,8 +1,7 @@
 -- How one pass decides: what it keeps of the records so far. Contracts within the crate cite this; no public statement does.
-use Rattle.std.specs.Prelude.{◌≡◌, ◌||◌, ℕ, suc, eqb, ltb}
+use Rattle.std.specs.Prelude.{◌≡◌, ◌||◌, ℕ, suc, eqb, ltb, if◌then◌else◌}
 use mathlib.Core.List.{List, [], ◌∷◌, foldl}
 use Rattle.std.specs.Int.Bits.{bit_and, bit_or}
-use Rattle.words.specs.Test.{if◌then◌else◌}
 use Rattle.words.specs.Said.{Said, done, refused}
 use Rattle.words.specs.Realm.{realm_at}
 use Rattle.list.specs.Checking.{Placed, records, check_says}

@@ -1,6 +1,5 @@
 // Which of the seven steps a record serves.
-ghost use Rattle.std.specs.Prelude.{◌≡◌, true, false, ◌<◌, eqb};
-ghost use Rattle.words.specs.Test.{if◌then◌else◌};
+ghost use Rattle.std.specs.Prelude.{◌≡◌, true, false, ◌<◌, eqb, if◌then◌else◌};
 ghost use Rattle.evaluate.specs.Steps.{steps};
 ghost use Rattle.evaluate.specs.Tally.{step_from};
 ghost use Rattle.evaluate.specs.declared.asking.File.{File as FileOf};

@@ -1,6 +1,5 @@
 -- What a call says, as C has it: a field that it does not use is 0.
-use Rattle.std.specs.Prelude.{Bool, [], ◌∷◌, ℕ, get_or}
-use Rattle.words.specs.Test.{if◌then◌else◌}
+use Rattle.std.specs.Prelude.{Bool, [], ◌∷◌, ℕ, get_or, if◌then◌else◌}
 use Rattle.words.specs.Said.{Said, done, refused}
 use Rattle.exchange.specs.declared.answer.Answer.{Answer}
 

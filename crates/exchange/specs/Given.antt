@@ -1,6 +1,5 @@
 -- What a call is given by C: realms and file ids are bytes, and what is no 0 is a yes.
-use Rattle.std.specs.Prelude.{not, eqb}
-use Rattle.words.specs.Test.{if◌then◌else◌}
+use Rattle.std.specs.Prelude.{not, eqb, if◌then◌else◌}
 use Rattle.words.specs.Number.{number_at}
 use Rattle.words.specs.Realm.{realm_at}
 use Rattle.evaluate.specs.declared.asking.Caller.{Caller as TheCaller}

@@ -1,4 +1,5 @@
 -- A history of exports is a history of the calls that they make; so the demands hold of them. Assumes nothing.
+use Rattle.std.specs.Prelude.{if◌then◌else◌}
 use mathlib.Core.Path.{◌≡◌, refl, sym, ◌∙◌, ap}
 use mathlib.Core.Bool.{Bool, true, false, not, ◌||◌, ◌&&◌}
 use mathlib.Core.List.{List, [], ◌∷◌, map}
@@ -8,7 +9,7 @@ use native.Mathlib.Omega.{arith}
 use borrow.Author.Tests.{eqb-true, eq-eqb, leb-true, not-true}
 use lib.Dec.{eqb, leb}
 use lib.ListN.{length}
-use Rattle.words.specs.Test.{if◌then◌else◌, any_of, all_of}
+use Rattle.words.specs.Test.{any_of, all_of}
 use Rattle.words.specs.Said.{Said, done, refused, is_done}
 use Rattle.words.proofs.Tests.{differ, and_left, and_right, or_one}
 use Rattle.words.proofs.Written.{number_fits}

@@ -1,4 +1,5 @@
 -- What a return does to a table: the token that it names loses the types, and nothing else changes. Assumes nothing.
+use Rattle.std.specs.Prelude.{if◌then◌else◌}
 use mathlib.Core.Path.{◌≡◌, refl, sym, ◌∙◌, ap}
 use mathlib.Core.Bool.{Bool, true, false, not}
 use mathlib.Core.List.{List, []}
@@ -7,7 +8,7 @@ use native.Mathlib.Nat.{le_of_eq}
 use borrow.Author.Tests.{eqb-true}
 use lib.Dec.{eqb}
 use lib.ListN.{length}
-use Rattle.words.specs.Test.{if◌then◌else◌, any_of}
+use Rattle.words.specs.Test.{any_of}
 use Rattle.words.specs.Said.{Said, done, refused}
 use Rattle.words.specs.Bit.{bit}
 use Rattle.words.proofs.Tests.{differ, and_left, and_right}

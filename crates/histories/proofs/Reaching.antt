@@ -1,4 +1,5 @@
 -- Whatever calls follow a fill, the bytes are those of a sound table. Assumes nothing.
+use Rattle.std.specs.Prelude.{if◌then◌else◌}
 use mathlib.Core.Path.{◌≡◌, refl, sym, ◌∙◌, ap}
 use mathlib.Core.Bool.{Bool, true, false}
 use mathlib.Core.List.{List, [], ◌∷◌, map}
@@ -8,7 +9,6 @@ use native.Mathlib.Nat.{le_refl}
 use native.Mathlib.Omega.{arith}
 use borrow.Author.Tests.{ne_eqb}
 use lib.ListN.{length, get_or, replicate, length-replicate, get_or-map}
-use Rattle.words.specs.Test.{if◌then◌else◌}
 use Rattle.words.specs.Said.{Said, done, refused, is_done, and_then, left}
 use Rattle.words.specs.Number.{Bytes}
 use Rattle.words.proofs.Tests.{differ, Each, none_any}

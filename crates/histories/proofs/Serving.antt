@@ -1,4 +1,5 @@
 -- After any returns a request is refused for conflict exactly while a listed type is still held, and otherwise served. Assumes nothing.
+use Rattle.std.specs.Prelude.{if◌then◌else◌}
 use mathlib.Core.Path.{◌≡◌, refl, sym, ◌∙◌, ap}
 use mathlib.Core.Bool.{Bool, true, false, not}
 use mathlib.Core.List.{List, [], ◌∷◌, Memᴰ}
@@ -7,7 +8,7 @@ use Prim.Native.Nat.{ℕ, ◌<◌}
 use native.Mathlib.Omega.{arith}
 use borrow.Author.Tests.{eqb-false, ne_eqb, not-true}
 use lib.Dec.{eqb}
-use Rattle.words.specs.Test.{if◌then◌else◌, any_of, place_of}
+use Rattle.words.specs.Test.{any_of, place_of}
 use Rattle.words.specs.Said.{done, refused}
 use Rattle.words.specs.Bit.{bit}
 use Rattle.words.proofs.Tests.{differ, fails}

@@ -1,4 +1,5 @@
 -- Every call answers in its shape: so many values, or one of its refusals with the value that goes with it. Assumes nothing.
+use Rattle.std.specs.Prelude.{if◌then◌else◌}
 use mathlib.Core.Path.{◌≡◌, refl, sym}
 use mathlib.Core.Bool.{Bool, true, false, cond, not, ◌&&◌}
 use mathlib.Core.List.{List, [], ◌∷◌}
@@ -8,7 +9,7 @@ use borrow.Author.Tests.{eqb-true}
 use lib.Bits.{bit_and}
 use lib.Dec.{eqb, ltb, leb}
 use lib.ListN.{length, get_or, drop}
-use Rattle.words.specs.Test.{if◌then◌else◌, any_of, all_of}
+use Rattle.words.specs.Test.{any_of, all_of}
 use Rattle.words.specs.Said.{Said, done, refused, and_then}
 use Rattle.words.specs.Realm.{unknown_realm, same_realm, realm_at}
 use Rattle.words.specs.declared.realm.Realm.{Realm}

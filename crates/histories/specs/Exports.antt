@@ -1,6 +1,6 @@
 -- The same of the calls for C: a history of exports, each as its own statement says, and the demands read off the bytes and the answers that C has.
-use Rattle.std.specs.Prelude.{◌≡◌, true, false, not, List, [], map, ◌⊎◌, ◌≢◌, ℕ, ◌*◌, ◌^◌, ◌≤◌, ◌<◌, eqb, length}
-use Rattle.words.specs.Test.{if◌then◌else◌, any_of}
+use Rattle.std.specs.Prelude.{◌≡◌, true, false, not, List, [], map, ◌⊎◌, ◌≢◌, ℕ, ◌*◌, ◌^◌, ◌≤◌, ◌<◌, eqb, length, if◌then◌else◌}
+use Rattle.words.specs.Test.{any_of}
 use Rattle.words.specs.Said.{Said, done}
 use Rattle.words.specs.Number.{Bytes}
 use Rattle.claims.specs.Claim.{malformed}

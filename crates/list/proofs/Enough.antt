@@ -1,11 +1,11 @@
 -- A list has no more records than bytes: a larger bound cuts it no further. Assumes nothing.
+use Rattle.std.specs.Prelude.{if◌then◌else◌}
 use mathlib.Core.Path.{◌≡◌, refl, ap}
 use mathlib.Core.List.{List, [], ◌∷◌}
 use Prim.Native.Nat.{ℕ, zero, suc, ◌+◌, ◌≤◌}
 use native.Mathlib.Omega.{arith}
 use lib.Dec.{eqb}
 use lib.ListN.{length, drop, length-drop}
-use Rattle.words.specs.Test.{if◌then◌else◌}
 use Rattle.records.specs.Reading.{read_of, when_whole}
 use Rattle.records.specs.declared.records.Read.{Read}
 use Rattle.records.specs.declared.records.Read.TheVariants.{Nothing, Unknown, Short, Whole}

@@ -1,4 +1,5 @@
 -- The marks of a walk say what the records so far have. Assumes nothing.
+use Rattle.std.specs.Prelude.{if◌then◌else◌}
 use mathlib.Core.Path.{◌≡◌, refl, ◌∙◌, ap}
 use mathlib.Core.Bool.{Bool, true, false, not, ◌||◌, ◌&&◌}
 use Prim.Native.Nat.{ℕ, ◌+◌, ◌*◌, ◌/◌, ◌%◌}
@@ -7,7 +8,6 @@ use borrow.Author.Tests.{eqb-true, eqb-false, leb-true, eq-eqb, ne_eqb}
 use lib.Arith.{digits_mod}
 use lib.Bits.{bit_or}
 use lib.Dec.{eqb, leb, lit<}
-use Rattle.words.specs.Test.{if◌then◌else◌}
 use Rattle.words.specs.Bit.{bit}
 use Rattle.words.proofs.Bits.{bit-bit_or}
 use Rattle.records.specs.Kind.{wants_mask}

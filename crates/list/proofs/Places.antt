@@ -1,4 +1,5 @@
 -- The records of a list lie within it. Assumes nothing.
+use Rattle.std.specs.Prelude.{if◌then◌else◌}
 use mathlib.Core.Path.{◌≡◌, refl}
 use mathlib.Core.List.{List, [], ◌∷◌}
 use mathlib.Core.Bool.{Bool, true, false}
@@ -6,7 +7,6 @@ use Prim.Native.Nat.{ℕ, zero, suc, ◌+◌, ◌≤◌}
 use native.Mathlib.Omega.{arith}
 use lib.Dec.{eqb}
 use lib.ListN.{length, drop, length-drop}
-use Rattle.words.specs.Test.{if◌then◌else◌}
 use Rattle.words.proofs.Tests.{Each}
 use Rattle.records.specs.Reading.{read_of, when_whole}
 use Rattle.records.specs.declared.records.Read.{Read}

@@ -1,6 +1,7 @@
 -- A loop over the walk makes the check and passes through the list's records. What is said of the rest of the list is what is said
 -- of the whole, and what is gathered from the rest is what is gathered from the whole; a step says how that goes on.
 -- Assumes nothing.
+use Rattle.std.specs.Prelude.{if◌then◌else◌}
 use mathlib.Core.Path.{◌≡◌, refl, sym, ◌∙◌}
 use mathlib.Core.List.{List, [], ◌∷◌, foldl}
 use mathlib.Core.Bool.{Bool, true, false, cond, not, ◌||◌, ◌&&◌, or-false}
@@ -11,7 +12,7 @@ use lib.Bits.{bit_or}
 use lib.Dec.{eqb, ltb, leb}
 use lib.ListN.{length, drop, length-drop, drop_of_length-le}
 use lib.Seq.{drop-drop}
-use Rattle.words.specs.Test.{if◌then◌else◌, any_of}
+use Rattle.words.specs.Test.{any_of}
 use Rattle.words.specs.Bit.{bit}
 use Rattle.words.specs.Said.{Said, done, refused, and_then}
 use Rattle.records.specs.Reading.{read_of, when_whole}

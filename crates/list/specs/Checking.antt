@@ -1,6 +1,6 @@
 -- A whole list: its records with their places, and what the check says of it.
-use Rattle.std.specs.Prelude.{Bool, not, List, [], ◌∷◌, ℕ, zero, suc, ◌+◌, eqb, ltb, length, drop}
-use Rattle.words.specs.Test.{if◌then◌else◌, any_of}
+use Rattle.std.specs.Prelude.{Bool, not, List, [], ◌∷◌, ℕ, zero, suc, ◌+◌, eqb, ltb, length, drop, if◌then◌else◌}
+use Rattle.words.specs.Test.{any_of}
 use Rattle.words.specs.Said.{Said, done, refused, and_then}
 use Rattle.words.specs.Realm.{realm_at}
 use Rattle.words.specs.declared.realm.Realm.{Realm}

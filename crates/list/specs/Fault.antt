@@ -1,6 +1,5 @@
 -- Refusal 11 of a list, refusals 12 to 16 of one record by the default realm and the record before it, refusals 17 to 19 of all of them.
-use Rattle.std.specs.Prelude.{Bool, not, ◌&&◌, List, ℕ, eqb, ltb, get_or}
-use Rattle.words.specs.Test.{if◌then◌else◌}
+use Rattle.std.specs.Prelude.{Bool, not, ◌&&◌, List, ℕ, eqb, ltb, get_or, if◌then◌else◌}
 use Rattle.words.specs.Realm.{zero_realm}
 use Rattle.words.specs.declared.realm.Realm.{Realm}
 use Rattle.records.specs.Standing.{rises, is_forbidden}

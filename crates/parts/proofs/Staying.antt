@@ -1,4 +1,5 @@
 -- The claims that stay, case by case. Assumes nothing.
+use Rattle.std.specs.Prelude.{if◌then◌else◌}
 use mathlib.Core.Path.{◌≡◌, refl, sym, subst}
 use mathlib.Core.Bool.{Bool, true, false, not, ◌||◌, ◌&&◌}
 use mathlib.Core.List.Memᴰ
@@ -9,7 +10,6 @@ use native.Mathlib.Omega.{arith}
 use borrow.Author.Tests.{eqb-true, eqb-false, ne_eqb, leb-true, ltb-true, lt-ltb, not-true}
 use lib.Dec.{eqb, leb, ltb}
 use lib.ListN.{length}
-use Rattle.words.specs.Test.{if◌then◌else◌}
 use Rattle.words.specs.Said.{done, refused}
 use Rattle.words.proofs.Tests.{and_left, and_right}
 use Rattle.words.proofs.Left.{not_done}

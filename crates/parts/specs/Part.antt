@@ -1,6 +1,5 @@
 -- Return takes a range as well: what it leaves of a token's claim.
-use Rattle.std.specs.Prelude.{◌≡◌, Bool, not, ◌||◌, ◌&&◌, List, [], ◌∷◌, ◌++◌, ℕ, zero, suc, ◌+◌, ◌-◌, eqb, leb, ltb}
-use Rattle.words.specs.Test.{if◌then◌else◌}
+use Rattle.std.specs.Prelude.{◌≡◌, Bool, not, ◌||◌, ◌&&◌, List, [], ◌∷◌, ◌++◌, ℕ, zero, suc, ◌+◌, ◌-◌, eqb, leb, ltb, if◌then◌else◌}
 use Rattle.words.specs.Said.{Said, done, refused}
 use Rattle.claims.specs.Types.{without, lacks}
 use Rattle.claims.specs.Claim.{with_types, with_range}

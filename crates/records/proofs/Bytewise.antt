@@ -1,4 +1,5 @@
 -- The order of records by their numbers is the order of their bytes. Assumes nothing.
+use Rattle.std.specs.Prelude.{if◌then◌else◌}
 use mathlib.Core.Path.{◌≡◌, refl, sym, ◌∙◌, ap}
 use mathlib.Core.List.{List, [], ◌∷◌, ◌++◌, append-nil}
 use mathlib.Core.Bool.{Bool, true, false, not, ◌&&◌}
@@ -8,7 +9,6 @@ use borrow.Author.Tests.{eqb-true, eqb-false}
 use lib.Dec.{eqb, ltb}
 use lib.ListN.{length, get_or, take}
 use lib.Seq.{take-add}
-use Rattle.words.specs.Test.{if◌then◌else◌}
 use Rattle.words.specs.Number.{Bytes, number, part, number_at, less, before}
 use Rattle.words.specs.Realm.{zero_realm, realm_at, less_realm}
 use Rattle.words.proofs.Order.{apart, less_last, parts, number_at_lem, realms}

@@ -1,4 +1,5 @@
 -- What a record that was read from a tail takes of it. Assumes nothing.
+use Rattle.std.specs.Prelude.{if◌then◌else◌}
 use mathlib.Core.Path.{◌≡◌, refl, sym, ap, ◌∙◌}
 use mathlib.Core.List.{List}
 use mathlib.Core.Bool.{Bool, true, false, not}
@@ -7,7 +8,6 @@ use native.Mathlib.Omega.{arith}
 use borrow.Author.Tests.{ltb-false, eqb-true, lt-ltb, le-ltb}
 use lib.Dec.{eqb, ltb}
 use lib.ListN.{length, get_or}
-use Rattle.words.specs.Test.{if◌then◌else◌}
 use Rattle.words.specs.Number.{number_at}
 use Rattle.words.specs.Realm.{zero_realm, realm_at}
 use Rattle.records.specs.Kind.{body, body_of, body_length, is_known, size}

@@ -1,6 +1,5 @@
 -- The order of records as 01 says it, in the list's own bytes.
-use Rattle.std.specs.Prelude.{Bool, List, ℕ, ◌+◌, eqb, get_or, take}
-use Rattle.words.specs.Test.{if◌then◌else◌}
+use Rattle.std.specs.Prelude.{Bool, List, ℕ, ◌+◌, eqb, get_or, take, if◌then◌else◌}
 use Rattle.words.specs.Number.{before}
 use Rattle.records.specs.Kind.{body_of}
 

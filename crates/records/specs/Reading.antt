@@ -1,6 +1,5 @@
 -- One record, read from the part of the list that begins at it.
-use Rattle.std.specs.Prelude.{◌≡◌, not, List, [], ◌∷◌, ℕ, ◌+◌, eqb, ltb, length, get_or}
-use Rattle.words.specs.Test.{if◌then◌else◌}
+use Rattle.std.specs.Prelude.{◌≡◌, not, List, [], ◌∷◌, ℕ, ◌+◌, eqb, ltb, length, get_or, if◌then◌else◌}
 use Rattle.words.specs.Said.{Said, done, refused}
 use Rattle.words.specs.Number.{number_at}
 use Rattle.words.specs.Realm.{zero_realm, realm_at}

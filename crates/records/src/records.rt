@@ -1,6 +1,5 @@
 // One record of an access list.
-ghost use Rattle.std.specs.Prelude.{◌≡◌, ◌+◌, ◌≤◌, ◌<◌, eqb, get_or};
-ghost use Rattle.words.specs.Test.{if◌then◌else◌};
+ghost use Rattle.std.specs.Prelude.{◌≡◌, ◌+◌, ◌≤◌, ◌<◌, eqb, get_or, if◌then◌else◌};
 ghost use Rattle.words.specs.Number.{number_at};
 ghost use Rattle.words.specs.Realm.{zero_realm, realm_at};
 ghost use Rattle.records.specs.Kind.{body, body_of};

@@ -1,11 +1,12 @@
 -- The count of a dropped host's slots is theirs, and none is left. Assumes nothing.
+use Rattle.std.specs.Prelude.{if◌then◌else◌}
 use mathlib.Core.Path.{◌≡◌, refl, sym, ap}
 use mathlib.Core.Bool.{Bool, true, false}
 use mathlib.Core.List.{List, [], ◌∷◌, map}
 use Prim.Native.Nat.{ℕ}
 use lib.Dec.{eqb}
 use lib.ListN.{length, get_or}
-use Rattle.words.specs.Test.{if◌then◌else◌, those}
+use Rattle.words.specs.Test.{those}
 use Rattle.words.specs.Said.{Said, done, refused}
 use Rattle.words.proofs.Tests.{Each, those_none}
 use Rattle.words.proofs.Left.{not_done}

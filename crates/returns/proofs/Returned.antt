@@ -1,4 +1,5 @@
 -- Returning, by the tests that the code makes. Assumes nothing.
+use Rattle.std.specs.Prelude.{if◌then◌else◌}
 use mathlib.Core.Path.{◌≡◌, refl, sym, ◌∙◌, ap}
 use mathlib.Core.Bool.{Bool, true, false, not, ◌||◌}
 use mathlib.Core.List.{List, []}
@@ -8,7 +9,7 @@ use borrow.Author.Tests.{lt-ltb, le-ltb, ltb-false, eq-eqb, ne_eqb}
 use lib.Bits.{bit_and}
 use lib.Dec.{eqb, ltb}
 use lib.ListN.{length, get_or, length-set}
-use Rattle.words.specs.Test.{if◌then◌else◌, any_of, place_of}
+use Rattle.words.specs.Test.{any_of, place_of}
 use Rattle.words.specs.Said.{done, refused, left}
 use Rattle.words.specs.Number.{Bytes, part}
 use Rattle.words.specs.Writing.{over}

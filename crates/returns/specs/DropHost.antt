@@ -1,6 +1,6 @@
 -- Drop host frees the host's slots and answers how many they were.
-use Rattle.std.specs.Prelude.{◌≡◌, Bool, false, List, [], ◌∷◌, map, ℕ, eqb, length}
-use Rattle.words.specs.Test.{if◌then◌else◌, those}
+use Rattle.std.specs.Prelude.{◌≡◌, Bool, false, List, [], ◌∷◌, map, ℕ, eqb, length, if◌then◌else◌}
+use Rattle.words.specs.Test.{those}
 use Rattle.words.specs.Said.{Said, done, refused}
 use Rattle.table.specs.Table.{Table, with_slots}
 use Rattle.table.specs.Reply.{reply_says}

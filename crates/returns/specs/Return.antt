@@ -1,6 +1,6 @@
 -- Return takes host, number and types; the lowest slot with that number and host loses them; with none left it is free.
-use Rattle.std.specs.Prelude.{◌≡◌, Bool, false, not, ◌&&◌, List, [], ℕ, eqb, get_or}
-use Rattle.words.specs.Test.{if◌then◌else◌, any_of, place_of}
+use Rattle.std.specs.Prelude.{◌≡◌, Bool, false, not, ◌&&◌, List, [], ℕ, eqb, get_or, if◌then◌else◌}
+use Rattle.words.specs.Test.{any_of, place_of}
 use Rattle.words.specs.Said.{Said, done, refused}
 use Rattle.claims.specs.Types.{without, lacks}
 use Rattle.claims.specs.Claim.{with_types, unfit}

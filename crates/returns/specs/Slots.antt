@@ -1,6 +1,6 @@
 -- Contracts of the crate's own functions: one slot changed, or all slots of a host.
-use Rattle.std.specs.Prelude.{◌≡◌, List, [], ℕ, length, get_or}
-use Rattle.words.specs.Test.{if◌then◌else◌, those}
+use Rattle.std.specs.Prelude.{◌≡◌, List, [], ℕ, length, get_or, if◌then◌else◌}
+use Rattle.words.specs.Test.{those}
 use Rattle.words.specs.Said.{Said, done, refused, left}
 use Rattle.words.specs.Number.{part}
 use Rattle.words.specs.Writing.{over}

@@ -1,7 +1,6 @@
 -- The rights call: its own refusals, its answer and the deciding record.
-use Rattle.std.specs.Prelude.{◌≡◌, List, [], ◌∷◌, ℕ, ◌+◌, ltb}
+use Rattle.std.specs.Prelude.{◌≡◌, List, [], ◌∷◌, ℕ, ◌+◌, ltb, if◌then◌else◌}
 use Rattle.std.specs.Borrow.{Bor}
-use Rattle.words.specs.Test.{if◌then◌else◌}
 use Rattle.words.specs.Said.{Said, done, refused}
 use Rattle.words.specs.Number.{part}
 use Rattle.words.specs.Realm.{unknown_realm, same_realm}

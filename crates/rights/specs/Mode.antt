@@ -1,7 +1,6 @@
 -- Rights from a local realm and a mode (12.16.1).
-use Rattle.std.specs.Prelude.{List, Bool, not, ◌&&◌, ℕ, ◌+◌, ◌*◌, ◌/◌, ◌%◌, eqb}
+use Rattle.std.specs.Prelude.{List, Bool, not, ◌&&◌, ℕ, ◌+◌, ◌*◌, ◌/◌, ◌%◌, eqb, if◌then◌else◌}
 use Rattle.std.specs.Int.Bits.{bit_or}
-use Rattle.words.specs.Test.{if◌then◌else◌}
 use Rattle.words.specs.Bit.{bit}
 use Rattle.words.specs.Realm.{same_realm}
 use Rattle.words.specs.declared.realm.Realm.{Realm}

@@ -1,4 +1,5 @@
 -- One scan: the form, the tokens in the way, the lowest free slot. Assumes nothing.
+use Rattle.std.specs.Prelude.{if◌then◌else◌}
 use mathlib.Core.Path.{◌≡◌, refl, sym, ◌∙◌, ap}
 use mathlib.Core.Bool.{Bool, true, false}
 use mathlib.Core.List.{List, [], ◌∷◌, ◌++◌}
@@ -9,7 +10,7 @@ use borrow.Author.Tests.{eqb-true, eqb-false, eq-eqb, ne_eqb, not-true}
 use lib.Dec.{eqb}
 use lib.ListN.{length, take}
 use lib.Seq.{take_all, length-take-le}
-use Rattle.words.specs.Test.{if◌then◌else◌, those, place_of}
+use Rattle.words.specs.Test.{those, place_of}
 use Rattle.words.specs.Number.{part}
 use Rattle.words.proofs.Tests.{differ, those_few, counted_more}
 use Rattle.words.proofs.Found.{place_within, place_more}

@@ -1,6 +1,6 @@
 -- Contracts of the crate's own functions: what a scan has seen of the slots so far.
-use Rattle.std.specs.Prelude.{◌≡◌, true, false, not, List, ℕ, ◌+◌, eqb}
-use Rattle.words.specs.Test.{if◌then◌else◌, all_of}
+use Rattle.std.specs.Prelude.{◌≡◌, true, false, not, List, ℕ, ◌+◌, eqb, if◌then◌else◌}
+use Rattle.words.specs.Test.{all_of}
 use Rattle.claims.specs.Rule.{conflict}
 use Rattle.claims.specs.declared.claim.Claim.{Claim}
 use Rattle.table.specs.Table.{is_free, is_in_the_way}

@@ -1,6 +1,5 @@
 // Surveying a table for a claim.
-ghost use Rattle.std.specs.Prelude.{◌≡◌, true, false, ◌≤◌, eqb, length};
-ghost use Rattle.words.specs.Test.{if◌then◌else◌};
+ghost use Rattle.std.specs.Prelude.{◌≡◌, true, false, ◌≤◌, eqb, length, if◌then◌else◌};
 ghost use Rattle.table.specs.Form.{is_length};
 ghost use Rattle.surveys.specs.Survey.{Surveys};
 ghost use Rattle.surveys.specs.Scan.{PassesToken, Passes, SurveysSlots};

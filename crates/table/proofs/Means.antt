@@ -1,4 +1,5 @@
 -- The bytes of a table in order are well formed and mean that table. Assumes nothing.
+use Rattle.std.specs.Prelude.{if◌then◌else◌}
 use mathlib.Core.Path.{◌≡◌, refl, ◌∙◌, ap, ap₂}
 use mathlib.Core.Bool.{Bool, true, false, not, ◌||◌, ◌&&◌}
 use mathlib.Core.List.{List, [], ◌∷◌, ◌++◌, map, append_assoc}
@@ -8,7 +9,7 @@ use borrow.Author.Tests.{eqb-false, ne_eqb, eq-eqb, le-leb, not-true, ltb-true, 
 use lib.Dec.{eqb, leb, ltb}
 use lib.ListN.{length, get_or, drop, replicate, length-map}
 use lib.Seq.{take_at, drop_at}
-use Rattle.words.specs.Test.{if◌then◌else◌, all_of}
+use Rattle.words.specs.Test.{all_of}
 use Rattle.words.specs.Number.{Bytes, number, part, number_at}
 use Rattle.words.specs.Writing.{digits}
 use Rattle.words.proofs.Tests.{Each, each_at, each_all, and_left, and_right, and_both, or_left, or_right}

@@ -1,4 +1,5 @@
 -- Tables in order stay in order: fresh, with a slot changed, with a number more. Assumes nothing.
+use Rattle.std.specs.Prelude.{if◌then◌else◌}
 use mathlib.Core.Path.{◌≡◌, refl, sym, ◌∙◌}
 use mathlib.Core.Bool.{Bool, true, false, not, ◌&&◌}
 use mathlib.Core.List.{List, [], map}
@@ -8,7 +9,6 @@ use native.Mathlib.Omega.{arith}
 use borrow.Author.Tests.{ltb-true, lt-ltb}
 use lib.Dec.{ltb}
 use lib.ListN.{length, replicate, length-set, length-map, length-replicate}
-use Rattle.words.specs.Test.{if◌then◌else◌}
 use Rattle.words.specs.Said.{Said, done, refused, left}
 use Rattle.words.specs.Number.{Bytes}
 use Rattle.words.proofs.Tests.{Each, each_so, each_set, each_map, and_left, and_right, and_both}

@@ -1,4 +1,5 @@
 -- A slot in bytes, both ways: what is written is read again, what is well formed is spelled as it stood. Assumes nothing.
+use Rattle.std.specs.Prelude.{if◌then◌else◌}
 use mathlib.Core.Path.{◌≡◌, refl, sym, ◌∙◌, ap, ap₂}
 use mathlib.Core.Bool.{Bool, true, false, cond, ◌||◌, ◌&&◌}
 use mathlib.Core.List.{List, [], ◌∷◌, ◌++◌, append_assoc}
@@ -8,7 +9,7 @@ use borrow.Author.Tests.{eqb-true}
 use lib.Dec.{eqb}
 use lib.ListN.{length, get_or, take, replicate}
 use lib.Seq.{take-add, take_all}
-use Rattle.words.specs.Test.{if◌then◌else◌, all_of}
+use Rattle.words.specs.Test.{all_of}
 use Rattle.words.specs.Number.{Bytes, number_from, number, within, number_at}
 use Rattle.words.specs.Writing.{digits}
 use Rattle.words.proofs.Tests.{differ, and_left, and_right}

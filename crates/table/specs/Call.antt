@@ -1,7 +1,6 @@
 -- One definition takes a call on a table to bytes: if they are not well formed, 30; else the call on the table that they mean, and the bytes of
 -- the table after it.
-use Rattle.std.specs.Prelude.{List, [], ℕ}
-use Rattle.words.specs.Test.{if◌then◌else◌}
+use Rattle.std.specs.Prelude.{List, [], ℕ, if◌then◌else◌}
 use Rattle.words.specs.Said.{Said, refused, left}
 use Rattle.table.specs.Table.{Table}
 use Rattle.table.specs.Layout.{table_of, bytes_of}

@@ -1,6 +1,5 @@
 -- Fill makes all slots free with next 1 and starts a new history.
-use Rattle.std.specs.Prelude.{◌≡◌, List, [], ℕ, length, replicate}
-use Rattle.words.specs.Test.{if◌then◌else◌}
+use Rattle.std.specs.Prelude.{◌≡◌, List, [], ℕ, length, replicate, if◌then◌else◌}
 use Rattle.words.specs.Said.{Said, done, refused, left}
 use Rattle.table.specs.Table.{Table}
 use Rattle.table.specs.Layout.{count, bytes_of}

@@ -1,6 +1,5 @@
 -- The table in bytes: what bytes mean, and the bytes of a table.
-use Rattle.std.specs.Prelude.{◌≡◌, List, [], ◌∷◌, ◌++◌, map, ℕ, zero, suc, ◌-◌, ◌/◌, ◌^◌, ◌<◌, eqb, length, get_or, take, drop, replicate}
-use Rattle.words.specs.Test.{if◌then◌else◌}
+use Rattle.std.specs.Prelude.{◌≡◌, List, [], ◌∷◌, ◌++◌, map, ℕ, zero, suc, ◌-◌, ◌/◌, ◌^◌, ◌<◌, eqb, length, get_or, take, drop, replicate, if◌then◌else◌}
 use Rattle.words.specs.Said.{Said, done}
 use Rattle.words.specs.Number.{number_at}
 use Rattle.words.specs.Writing.{digits, written}

@@ -1,4 +1,5 @@
 -- A grant leaves a table in order; so after it the bytes are well formed, or as they were. Assumes nothing.
+use Rattle.std.specs.Prelude.{if◌then◌else◌}
 use mathlib.Core.Path.{◌≡◌, refl}
 use mathlib.Core.Bool.{Bool, true, false, not}
 use mathlib.Core.List.{List, [], ◌∷◌}
@@ -7,7 +8,7 @@ use Prim.Native.Nat.{ℕ}
 use borrow.Author.Tests.{eqb-false}
 use lib.Dec.{eqb}
 use lib.ListN.{length, length-set}
-use Rattle.words.specs.Test.{if◌then◌else◌, any_of, place_of}
+use Rattle.words.specs.Test.{any_of, place_of}
 use Rattle.words.specs.Said.{done, refused, and_then}
 use Rattle.words.specs.Number.{Bytes}
 use Rattle.words.proofs.Left.{not_done}

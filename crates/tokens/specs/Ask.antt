@@ -1,6 +1,6 @@
 -- Ask changes no table. It writes, in slot order, one entry per token that conflicts; its answer is their count.
-use Rattle.std.specs.Prelude.{◌≡◌, List, [], ◌∷◌, ◌++◌, map, ℕ, ltb, length}
-use Rattle.words.specs.Test.{if◌then◌else◌, those}
+use Rattle.std.specs.Prelude.{◌≡◌, List, [], ◌∷◌, ◌++◌, map, ℕ, ltb, length, if◌then◌else◌}
+use Rattle.words.specs.Test.{those}
 use Rattle.words.specs.Said.{Said, done, refused, and_then, left}
 use Rattle.words.specs.Writing.{digits}
 use Rattle.claims.specs.Rule.{conflict}

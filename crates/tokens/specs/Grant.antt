@@ -1,6 +1,6 @@
 -- Grant takes the lowest free slot, gives it the next number, which is the answer, and raises next by one.
-use Rattle.std.specs.Prelude.{◌≡◌, not, List, [], ◌∷◌, ℕ, eqb}
-use Rattle.words.specs.Test.{if◌then◌else◌, any_of, place_of}
+use Rattle.std.specs.Prelude.{◌≡◌, not, List, [], ◌∷◌, ℕ, eqb, if◌then◌else◌}
+use Rattle.words.specs.Test.{any_of, place_of}
 use Rattle.words.specs.Said.{Said, done, refused, and_then}
 use Rattle.claims.specs.Claim.{malformed}
 use Rattle.claims.specs.declared.claim.Claim.{Claim}

@@ -1,6 +1,6 @@
 -- Contracts of the crate's own functions: a grant's refusal, its token, and the entries of ask's list.
-use Rattle.std.specs.Prelude.{◌≡◌, true, List, [], ◌∷◌, ◌≢◌, ℕ, ◌+◌, ◌<◌, length}
-use Rattle.words.specs.Test.{if◌then◌else◌, place_of}
+use Rattle.std.specs.Prelude.{◌≡◌, true, List, [], ◌∷◌, ◌≢◌, ℕ, ◌+◌, ◌<◌, length, if◌then◌else◌}
+use Rattle.words.specs.Test.{place_of}
 use Rattle.words.specs.Said.{done, refused}
 use Rattle.words.specs.Writing.{over}
 use Rattle.claims.specs.declared.claim.Claim.{Claim}

@@ -1,4 +1,5 @@
 -- The computed range is the widest one, and there is one widest range. Assumes nothing.
+use Rattle.std.specs.Prelude.{if◌then◌else◌}
 use mathlib.Core.Path.{◌≡◌, refl, sym, ◌∙◌, ap}
 use mathlib.Core.Bool.{Bool, true, false}
 use mathlib.Core.List.Memᴰ
@@ -9,7 +10,6 @@ use native.Mathlib.Nat.{le_refl}
 use native.Mathlib.Omega.{arith}
 use borrow.Author.Tests.{eqb-false, ltb-true, ltb-false, not-true}
 use lib.Dec.{eqb, ltb}
-use Rattle.words.specs.Test.{if◌then◌else◌}
 use Rattle.words.proofs.Tests.{differ}
 use Rattle.claims.specs.Claim.{with_range}
 use Rattle.claims.specs.Rule.{conflict}

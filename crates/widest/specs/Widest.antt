@@ -1,7 +1,6 @@
 -- The widest range of a claim: the largest that holds the asked one and still conflicts with nobody.
-use Rattle.std.specs.Prelude.{◌≡◌, Bool, not, ℕ, ◌+◌, ◌-◌, ◌≤◌, eqb, ltb}
+use Rattle.std.specs.Prelude.{◌≡◌, Bool, not, ℕ, ◌+◌, ◌-◌, ◌≤◌, eqb, ltb, if◌then◌else◌}
 use mathlib.Core.List.{foldl, Memᴰ}
-use Rattle.words.specs.Test.{if◌then◌else◌}
 use Rattle.claims.specs.Claim.{with_range}
 use Rattle.claims.specs.Rule.{conflict}
 use Rattle.claims.specs.declared.claim.Claim.{Claim}

@@ -1,4 +1,5 @@
 -- The first element that passes a test, as a search finds it. Assumes nothing.
+use Rattle.std.specs.Prelude.{if◌then◌else◌}
 use mathlib.Core.Path.{◌≡◌, refl, sym, ◌∙◌, ap}
 use mathlib.Core.Bool.{Bool, true, false, cond}
 use mathlib.Core.List.{List, [], ◌∷◌, ◌++◌}
@@ -7,7 +8,7 @@ use native.Mathlib.Omega.{arith}
 use borrow.Author.Tests.{ltb-true, ltb-false, lt-ltb, le-ltb, eqb-true, eqb-false, eq-eqb, ne_eqb}
 use lib.Dec.{eqb, ltb}
 use lib.ListN.{length, get_or}
-use Rattle.words.specs.Test.{if◌then◌else◌, any_of, place_of}
+use Rattle.words.specs.Test.{any_of, place_of}
 
 less_suc : (m n : ℕ) → ltb m n ≡ ltb (suc m) (suc n)
 less_suc m n = go (ltb m n) refl

@@ -1,4 +1,5 @@
 -- Both parts of a test that passed, or failed; the elements that pass a test; what holds of each element. Assumes nothing.
+use Rattle.std.specs.Prelude.{if◌then◌else◌}
 use mathlib.Core.Path.{◌≡◌, refl, sym, ◌∙◌, ap}
 use mathlib.Core.Bool.{Bool, true, false, cond, not, ◌||◌, ◌&&◌}
 use mathlib.Core.List.{List, [], ◌∷◌, ◌++◌, map}
@@ -8,7 +9,7 @@ use native.Mathlib.Omega.{arith}
 use borrow.Author.Tests.{ne_eqb}
 use lib.Dec.{eqb}
 use lib.ListN.{length, get_or, set, length-append}
-use Rattle.words.specs.Test.{if◌then◌else◌, any_of, all_of, those}
+use Rattle.words.specs.Test.{any_of, all_of, those}
 
 pub differ : true ≡ false → ⊥
 differ q = let z : ◌≡◌ {A = ℕ} 0 1 = cc in omega arith

@@ -1,4 +1,5 @@
 -- Numbers in bytes that are written: read again, one piece after the other. Assumes nothing.
+use Rattle.std.specs.Prelude.{if◌then◌else◌}
 use mathlib.Core.Path.{◌≡◌, refl, sym, ◌∙◌, ap}
 use mathlib.Core.Bool.{Bool, true, false}
 use mathlib.Core.List.{List, [], ◌∷◌, ◌++◌, append_assoc, append-nil}
@@ -10,7 +11,6 @@ use borrow.Author.Tests.{leb-true, le-leb}
 use lib.Dec.{leb}
 use lib.ListN.{length, take, drop, set, length-append, length-take, length-drop, take-append-drop}
 use lib.Seq.{length-take-le, drop-drop, take_at, drop_at, take-append-le, drop-append-le, take-append-add, drop-append-add, append_snoc, set_split}
-use Rattle.words.specs.Test.{if◌then◌else◌}
 use Rattle.words.specs.Number.{Bytes, number_from, number, part, within, number_at}
 use Rattle.words.specs.Writing.{digits, over, written}
 use Rattle.words.specs.Realm.{realm_at, realm_bytes}

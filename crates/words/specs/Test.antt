@@ -1,12 +1,7 @@
--- What the other definitions are written with: a choice, and tests over a list.
+-- What the other definitions are written with: tests over a list.
 use Rattle.std.specs.Prelude.{Bool, true, false, cond, List, [], ◌∷◌, ℕ, suc}
 
 module _ {A : Type 0} where
-  infixr 5 if◌then◌else◌
-  abbrev pub if◌then◌else◌ : Bool → A → A → A
-  if true then a else b = a
-  if false then a else b = b
-
   -- some element passes a test
   unfoldable pub any_of : (A → Bool) → List A → Bool
   any_of test [] = false

@@ -1,6 +1,5 @@
 -- Writing into lent bytes.
-use Rattle.std.specs.Prelude.{◌≡◌, List, [], ◌∷◌, ◌++◌, ℕ, zero, suc, ◌+◌, ◌/◌, ◌%◌, length, take, drop}
-use Rattle.words.specs.Test.{if◌then◌else◌}
+use Rattle.std.specs.Prelude.{◌≡◌, List, [], ◌∷◌, ◌++◌, ℕ, zero, suc, ◌+◌, ◌/◌, ◌%◌, length, take, drop, if◌then◌else◌}
 use Rattle.words.specs.Number.{within}
 
 -- the bytes of a width that spell a number: the higher ones, then the lowest
