@@ -62,9 +62,13 @@ fn keep_mode(file: &impl OpenFile, mode: Option<Permissions>) -> bool {
     }
 }
 
-// All of the bytes, until they have reached the device.
-fn write_out(file: &mut (impl OpenFile + Write), mode: Option<Permissions>, bytes: &[u8]) -> bool {
-    let moded = keep_mode(file, mode);
+// All of the bytes, until they have reached the device; then the file is closed.
+fn write_out(
+    mut file: impl OpenFile + Write + Drop,
+    mode: Option<Permissions>,
+    bytes: &[u8],
+) -> bool {
+    let moded = keep_mode(&file, mode);
     let written = file.write_all(bytes).is_ok();
     let synced = file.sync_all().is_ok();
     moded & written & synced
@@ -83,8 +87,8 @@ fn replace(
         .create_new(true)
         .open(rt, new)
     {
-        Ok(mut made) => {
-            if write_out(&mut made, mode, bytes) {
+        Ok(made) => {
+            if write_out(made, mode, bytes) {
                 if fs::rename(rt, new, file).is_ok() {
                     return done_with(bytes.len() as u64);
                 }
