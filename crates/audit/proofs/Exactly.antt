@@ -1,4 +1,4 @@
--- Audit says yes exactly of a is_well_formed table whose numbers differ and in which nothing conflicts. Assumes nothing.
+-- Audit says yes exactly of a well-formed table whose numbers differ and in which nothing conflicts. Assumes nothing.
 use mathlib.Core.Path.{◌≡◌, refl, sym}
 use mathlib.Core.Bool.{Bool, true, false, not}
 use mathlib.Core.List.{List, [], ◌∷◌}

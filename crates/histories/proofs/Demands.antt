@@ -171,7 +171,7 @@ module _ (claim : Claim) (out : List ℕ) (t : Table) (verdict : Said) (n : ℕ)
       go false p (done w) true z = absurd (not_done 35 (length (in_the_way claim t) ∷ []) (n ∷ []) (sym z))
       go false p (done w) false z = (p, same_value n (length (in_the_way claim t)) z)
 
--- a permitted, is_well_formed request is answered by room and conflicts alone
+-- a permitted, well-formed request is answered by room and conflicts alone
 served_as : (claim : Claim) (access : Access) (t : Table) → malformed claim (limit t) ≡ false → access_says access claim.types ≡ done []
     → grant_says claim access t ≡ serve_says claim t
 unfolding grant_says judged_says request_says and_then

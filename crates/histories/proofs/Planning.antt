@@ -52,7 +52,7 @@ free_not : (host number : ℕ) → is_of host number Free ≡ false
 unfolding is_of
 free_not host number = refl
 
--- some of a is_well_formed token's types are fit to be returned
+-- some of a well-formed token's types are fit to be returned
 fit_types : (top : ℕ) (held : Claim) (types : ℕ) → malformed held top ≡ false → types ≢ 0 → types ≤ held.types → unfit held.host types top ≡ false
 unfolding malformed unfit
 fit_types top held types shaped some less =

@@ -149,7 +149,7 @@ Demand3Of reached = (bytes : List ℕ) → reached bytes
 abbrev pub Demand3 : Type 0
 Demand3 = Demand3Of Reached
 
--- and there is always a list to speak of: in any is_well_formed table an ask of a is_well_formed request that is permitted is done if its buffer has
+-- and there is always a list to speak of: in any well-formed table an ask of a well-formed request that is permitted is done if its buffer has
 -- thirteen bytes for each of the table's slots
 abbrev pub AskIsDone : Type 0
 AskIsDone = (bytes : List ℕ) → well_formed bytes ≡ true → (claim : Claim) → malformed claim (limit (table_of bytes)) ≡ false

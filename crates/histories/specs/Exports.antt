@@ -173,7 +173,7 @@ Demand3InCOf reached = (bytes : List ℕ) → reached bytes
 abbrev pub Demand3InC : Type 0
 Demand3InC = Demand3InCOf ReachedInC
 
--- in any is_well_formed table an ask of a is_well_formed request that is permitted answers 0 if its buffer has thirteen bytes for each of the table's
+-- in any well-formed table an ask of a well-formed request that is permitted answers 0 if its buffer has thirteen bytes for each of the table's
 -- slots
 abbrev pub AskIsDoneInC : Type 0
 AskIsDoneInC = (bytes : List ℕ) → well_formed bytes ≡ true → (claim : Claim) → malformed (claim_of claim) (limit (table_of bytes)) ≡ false

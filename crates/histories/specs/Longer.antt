@@ -16,6 +16,6 @@ pub record Lengthened (bytes : List ℕ) (k : ℕ) : Type 0 where
   pub table : table_of (longer bytes k) ≡ with_slots (table_of bytes) ((table_of bytes).slots ++ replicate k Free)
   pub audit : sound (longer bytes k) ≡ sound bytes
 
--- of every is_well_formed table, up to 1,024 slots in all
+-- of every well-formed table, up to 1,024 slots in all
 abbrev pub Lengthens : Type 0
 Lengthens = (bytes : List ℕ) → Bytes bytes → well_formed bytes ≡ true → (k : ℕ) → count bytes + k ≤ 1024 → Lengthened bytes k

@@ -47,7 +47,7 @@ module _ (top next : ℕ) (slot : List ℕ) where
       unfolding is_slot
       token_slot h e = e ∙ sym (rw (eq-eqb (length slot) width sized, stands, eq-eqb (kind_of slot) 1 (sym told ∙ h)) refl)
 
--- what a is_well_formed beginning tells
+-- what a well-formed beginning tells
 pub opening_length : (bytes : List ℕ) → opening bytes ≡ true → is_length (length bytes) ≡ true
 unfolding opening
 opening_length bytes e = and_left (is_length (length bytes)) (is_header bytes) e

@@ -129,7 +129,7 @@ module _ (t : Table) (o : InOrder t) where
       and_both (is_length (length (bytes_of t)) && is_header (bytes_of t)) _ (and_both (is_length (length (bytes_of t))) (is_header (bytes_of t)) good_length good_header)
       (rw (table_bytes, next_again, cut_again) (each_all (is_slot (limit t) t.next) (map slot_bytes t.slots) (slots_formed (limit t) t.next o.wide t.slots o.slots)))
 
--- the table that is_well_formed bytes mean is in order
+-- the table that well-formed bytes mean is in order
 slots_ordered : (top next : ℕ) (pieces : List (List ℕ)) → Each (λ p. is_slot top next p ≡ true) pieces → Each Bytes pieces → Each (Ordered top next) (map slot_of pieces)
 unfolding Each Ordered slot_of
 slots_ordered top next [] e h = tt

@@ -104,7 +104,7 @@ blank_kind s e = go s (zeroes_are s e)
     go [] e = refl
     go (x ∷ xs) e = ap (λ (l : List ℕ). get_or l 0 0) e
 
--- what a is_well_formed slot tells
+-- what a well-formed slot tells
 pub data Formed (top next : ℕ) (s : List ℕ) : Type 0 where
   blank : all_zero s ≡ true → Formed top next s
   token : kind_of s ≡ 1 → is_token top next (number_at 8 33 s) (claim_of s) ≡ true → Formed top next s

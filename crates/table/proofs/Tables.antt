@@ -59,7 +59,7 @@ header_spelled bytes h l e =
     let both : (2 ∷ []) ++ replicate 32 0 ≡ take 33 bytes = ap₂ {C = List ℕ} (λ (x y : List ℕ). x ++ y) kind (sym zeroes) ∙ sym (take-add 1 32 bytes) in
     longer 33 8 bytes _ h (omega arith) both
 
--- what a is_well_formed table tells
+-- what a well-formed table tells
 module _ (bytes : List ℕ) (e : well_formed bytes ≡ true) where
   begins : opening bytes ≡ true
   unfolding well_formed

@@ -85,7 +85,7 @@ module _ (bytes : List ℕ) (claim : Claim) {seen : Seen} (look : Surveys bytes 
             some = λ n. absurd (n refl);
           }
 
--- a grant that is done: of a is_well_formed table, with room
+-- a grant that is done: of a well-formed table, with room
 module _ (bytes : List ℕ) (claim : Claim) {values : List ℕ} (e : says_of (grant_says claim) bytes ≡ done values) where
   pub done_formed : well_formed bytes ≡ true
   done_formed = go (well_formed bytes) refl

@@ -17,7 +17,7 @@ pub record Refuses (bytes : List ℕ) (claim : Claim) (r : ℕ) : Type 0 where
   pub none : r ≡ 0 → says_of (grant_says claim) bytes ≡ done ((table_of bytes).next ∷ [])
   pub some : r ≢ 0 → says_of (grant_says claim) bytes ≡ refused r []
 
--- the lowest free slot of a is_well_formed table, and a number left
+-- the lowest free slot of a well-formed table, and a number left
 pub record HasRoom (bytes : List ℕ) (free : ℕ) : Type 0 where
   pub formed : well_formed bytes ≡ true
   pub lowest : free ≡ place_of is_free (table_of bytes).slots
