@@ -5,9 +5,12 @@ use mathlib.Core.List.{List, [], ◌∷◌}
 use Prim.Native.Nat.{ℕ}
 use lib.ListN.{get_or}
 use Rattle.words.specs.Said.{Said, done, refused}
+use Rattle.std.specs.Prelude.{Option}
 use Rattle.words.specs.Number.{TellsWithin, ReadsNumber}
 use Rattle.words.specs.Realm.{ReadsRealm, TellsRealms, TellsUnknown}
+use Rattle.words.specs.Refusal.{TellsNumber, TellsValue}
 use Rattle.words.specs.declared.realm.Realm.{Realm}
+use Rattle.words.specs.declared.refusal.Refusal.{Refusal}
 
 -- where an answer can be read back from what it says, two answers that say the same are equal
 pub same_answer : {R S : Type 0} (saying : R → S) (back : S → R) → ((r : R) → back (saying r) ≡ r)
@@ -36,3 +39,10 @@ same_realm_determined a b r r' p q = p.answer ∙ sym q.answer
 
 pub is_unknown_determined : (realm : Realm) (r r' : Bool) → TellsUnknown realm r → TellsUnknown realm r' → r ≡ r'
 is_unknown_determined realm r r' p q = p.answer ∙ sym q.answer
+
+-- a refusal's number, and what goes with it
+pub refusal_number_determined : (refusal : Refusal) (r r' : ℕ) → TellsNumber refusal r → TellsNumber refusal r' → r ≡ r'
+refusal_number_determined refusal r r' p q = p.answer ∙ sym q.answer
+
+pub refusal_value_determined : (refusal : Refusal) (r r' : Option ℕ) → TellsValue refusal r → TellsValue refusal r' → r ≡ r'
+refusal_value_determined refusal r r' p q = p.answer ∙ sym q.answer

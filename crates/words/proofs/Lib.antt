@@ -7,3 +7,4 @@ pub mod Written
 pub mod Left
 pub mod Order
 pub mod Determined
+pub mod Refusals

@@ -1,5 +1,6 @@
 pub mod Test
 pub mod Said
+pub mod Refusal
 pub mod Lines
 pub mod Bit
 pub mod Number

@@ -3,6 +3,8 @@
 
 mod number;
 mod realm;
+mod refusal;
 
 pub use number::{holds, number16, number32, number64};
-pub use realm::{Realm, UNKNOWN_HI, is_unknown, realm_at, same_realm};
+pub use realm::{Realm, is_unknown, realm_at};
+pub use refusal::{Fault, Refusal};

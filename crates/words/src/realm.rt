@@ -1,16 +1,24 @@
 // Realms: sixteen bytes, held as two numbers of eight.
-ghost use Rattle.words.specs.Realm.{ReadsRealm, TellsRealms, TellsUnknown};
+ghost use Rattle.words.specs.Realm.{ReadsRealm, TellsUnknown};
 
 use crate::number::{holds, whole64};
 
-#[derive(Clone, Copy)]
+#[derive(Clone, Copy, PartialEq, Eq, PartialOrd, Ord)]
 pub struct Realm {
     pub hi: u64,
     pub lo: u64,
 }
 
-// The first half of the unknown realm, 255, 255, 255, 254 and four zeroes; the second is 0.
-pub const UNKNOWN_HI: u64 = 0xffff_fffe_0000_0000;
+impl Realm {
+    // Sixteen zeroes.
+    pub const ZERO: Realm = Realm { hi: 0, lo: 0 };
+
+    // 255, 255, 255, 254 and twelve zeroes.
+    pub const UNKNOWN: Realm = Realm {
+        hi: 0xffff_fffe_0000_0000,
+        lo: 0,
+    };
+}
 
 // The sixteen bytes at a place; zeroes where they are not all there.
 pub fn realm_at(bytes: &[u8], at: usize) -> Realm
@@ -22,24 +30,13 @@ pub fn realm_at(bytes: &[u8], at: usize) -> Realm
             lo: whole64(bytes, at + 8),
         }
     } else {
-        Realm { hi: 0, lo: 0 }
+        Realm::ZERO
     }
 }
 
-pub fn same_realm(a: Realm, b: Realm) -> bool
-    ensures { TellsRealms a b result }
-{
-    if a.hi != b.hi {
-        return false;
-    }
-    a.lo == b.lo
-}
-
+#[tactic(auto, unfolding(crate::specs::Realm::same_realm, crate::specs::Realm::unknown_realm))]
 pub fn is_unknown(realm: Realm) -> bool
     ensures { TellsUnknown realm result }
 {
-    if realm.hi != UNKNOWN_HI {
-        return false;
-    }
-    realm.lo == 0
+    realm == Realm::UNKNOWN
 }
