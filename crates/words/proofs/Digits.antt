@@ -110,3 +110,14 @@ room at width n h = go (leb (at + width) n) refl
 pub fits : {b : Bool} (at width : ℕ) (s : List ℕ) → b ≡ within at width s → b ≡ true → at + width ≤ length s
 unfolding within
 fits at width s q h = leb-true (at + width) (length s) (sym q ∙ h)
+
+-- eight bytes, one by one
+pub eight : (s : List ℕ) (at : ℕ) → at + 8 ≤ length s
+    → number (part at 8 s)
+    ≡ get_or s at 0 * 72057594037927936 + get_or s (at + 1) 0 * 281474976710656 + get_or s (at + 2) 0 * 1099511627776
+    + get_or s (at + 3) 0 * 4294967296 + get_or s (at + 4) 0 * 16777216 + get_or s (at + 5) 0 * 65536 + get_or s (at + 6) 0 * 256 + get_or s (at + 7) 0
+eight s at h =
+    let e : at + 4 + 1 ≡ at + 5 = omega arith in
+    let f : at + 4 + 2 ≡ at + 6 = omega arith in
+    let g : at + 4 + 3 ≡ at + 7 = omega arith in
+    rw (halves s at 4 4 (omega arith), four s at (omega arith), four s (at + 4) (omega arith), e, f, g) (omega arith)

@@ -3,6 +3,7 @@ pub mod Found
 pub mod Lines
 pub mod Bits
 pub mod Digits
+pub mod Reading
 pub mod Written
 pub mod Left
 pub mod Order

@@ -3,7 +3,7 @@ use Rattle.std.specs.Prelude.{if◌then◌else◌}
 use mathlib.Core.Path.{◌≡◌, refl, sym, ◌∙◌, ap}
 use mathlib.Core.Bool.{Bool, true, false}
 use mathlib.Core.List.{List, [], ◌∷◌, ◌++◌, append_assoc, append-nil}
-use Prim.Native.Nat.{ℕ, zero, suc, ◌+◌, ◌*◌, ◌/◌, ◌%◌, ◌^◌, ◌≤◌, ◌<◌}
+use Prim.Native.Nat.{ℕ, zero, suc, ◌+◌, ◌-◌, ◌*◌, ◌/◌, ◌%◌, ◌^◌, ◌≤◌, ◌<◌}
 use native.Mathlib.Nat.{add-zero, zero-add, pow-suc}
 use native.Mathlib.Numerals.{add-one}
 use native.Mathlib.Omega.{arith}
@@ -185,3 +185,11 @@ module _ (t : List ℕ) (ht : Bytes t) where
           hi = rw (part_length at 8 t (omega arith)) at (bounded (part at 8 t) (part_bytes at 8 t ht));
           lo = rw (part_length (at + 8) 8 t (omega arith)) at (bounded (part (at + 8) 8 t) (part_bytes (at + 8) 8 t ht));
         })
+
+-- what a copy into the part from a place on leaves
+pub copied : (at : ℕ) (piece out after : List ℕ) → after ≡ piece
+    → take at out ++ (after ++ drop (at + length piece - at) (drop at out)) ≡ over at piece out
+unfolding over
+copied at piece out after q =
+    let n : at + length piece - at ≡ length piece = omega arith in
+    rw (q, n, drop-drop (length piece) at out, append_assoc)

@@ -6,4 +6,3 @@ pub mod Bit
 pub mod Number
 pub mod Writing
 pub mod Realm
-pub mod Little

@@ -5,6 +5,6 @@ mod number;
 mod realm;
 mod refusal;
 
-pub use number::{holds, number16, number32, number64};
+pub use number::{Number, holds, number_at};
 pub use realm::{Realm, is_unknown, realm_at};
 pub use refusal::{Fault, Refusal};

@@ -1,12 +1,80 @@
 // Big-endian numbers, read from lent bytes.
-ghost use Rattle.std.specs.Prelude.{◌≡◌, ◌+◌, ◌*◌, ◌/◌, ◌%◌, ◌≤◌, ◌<◌, length};
+ghost use Rattle.std.specs.Prelude.{◌≡◌, ℕ, ◌+◌, ◌≤◌, length};
 ghost use Rattle.words.specs.Number.{number, part, TellsWithin, ReadsNumber};
-ghost use Rattle.words.specs.Little.{LittleTwo, LittleFour};
 
-fn wide(byte: u8) -> u32
-    ensures { (result ≡ byte) × (result < 256) }
-{
-    byte as u32
+// A number of so many bytes.
+pub trait Number: Copy {
+    ghost WIDTH: { ℕ };
+
+    const WIDTH: usize;
+
+    ghost value: { Self → ℕ };
+
+    // What stands for a number whose bytes are not all there.
+    fn zero() -> Self
+        ensures { value result ≡ 0 };
+
+    // The number at a place where its bytes are.
+    fn whole(bytes: &[u8], at: usize) -> Self
+        requires { at + WIDTH ≤ length bytes.now }
+        ensures { value result ≡ number (part at WIDTH bytes.now) };
+}
+
+impl Number for u16 {
+    ghost WIDTH = { 2 };
+
+    const WIDTH: usize = 2;
+
+    ghost value = { λ n. n };
+
+    fn zero() -> u16 {
+        0
+    }
+
+    fn whole(bytes: &[u8], at: usize) -> u16 {
+        u16::from_be_bytes([bytes[at], bytes[at + 1]])
+    }
+}
+
+impl Number for u32 {
+    ghost WIDTH = { 4 };
+
+    const WIDTH: usize = 4;
+
+    ghost value = { λ n. n };
+
+    fn zero() -> u32 {
+        0
+    }
+
+    fn whole(bytes: &[u8], at: usize) -> u32 {
+        u32::from_be_bytes([bytes[at], bytes[at + 1], bytes[at + 2], bytes[at + 3]])
+    }
+}
+
+impl Number for u64 {
+    ghost WIDTH = { 8 };
+
+    const WIDTH: usize = 8;
+
+    ghost value = { λ n. n };
+
+    fn zero() -> u64 {
+        0
+    }
+
+    fn whole(bytes: &[u8], at: usize) -> u64 {
+        u64::from_be_bytes([
+            bytes[at],
+            bytes[at + 1],
+            bytes[at + 2],
+            bytes[at + 3],
+            bytes[at + 4],
+            bytes[at + 5],
+            bytes[at + 6],
+            bytes[at + 7],
+        ])
+    }
 }
 
 // All bytes of a width at a place are there.
@@ -20,88 +88,13 @@ pub fn holds(bytes: &[u8], at: usize, width: usize) -> bool
     at <= n - width
 }
 
-// Two bytes with the lowest first: the compiler makes this one load, and `turned16` one instruction.
-fn little16(bytes: &[u8], at: usize) -> u16
-    requires { at + 2 ≤ length bytes.now }
-    ensures { LittleTwo bytes.now at result }
+// The number at a place; 0 where its bytes are not all there.
+pub fn number_at<N: Number>(bytes: &[u8], at: usize) -> N
+    ensures { ReadsNumber N.WIDTH bytes.now at (N.value result) }
 {
-    (wide(bytes[at]) + wide(bytes[at + 1]) * 256) as u16
-}
-
-// The same of four bytes.
-fn little32(bytes: &[u8], at: usize) -> u32
-    requires { at + 4 ≤ length bytes.now }
-    ensures { LittleFour bytes.now at result }
-{
-    wide(bytes[at])
-        + wide(bytes[at + 1]) * 256
-        + wide(bytes[at + 2]) * 65536
-        + wide(bytes[at + 3]) * 16777216
-}
-
-fn turned16(n: u16) -> u16
-    ensures { result ≡ n % 256 * 256 + n / 256 }
-{
-    n % 256 * 256 + n / 256
-}
-
-fn turned32(n: u32) -> u32
-    ensures { result ≡ n % 256 * 16777216 + n / 256 % 256 * 65536 + n / 65536 % 256 * 256 + n / 16777216 }
-{
-    n % 256 * 16777216 + n / 256 % 256 * 65536 + n / 65536 % 256 * 256 + n / 16777216
-}
-
-fn whole16(bytes: &[u8], at: usize) -> u16
-    requires { at + 2 ≤ length bytes.now }
-    ensures { result ≡ number (part at 2 bytes.now) }
-{
-    turned16(little16(bytes, at))
-}
-
-fn whole32(bytes: &[u8], at: usize) -> u32
-    requires { at + 4 ≤ length bytes.now }
-    ensures { (result ≡ number (part at 4 bytes.now)) × (result < 4294967296) }
-{
-    turned32(little32(bytes, at))
-}
-
-// Two halves: so the compiler makes one load of the eight bytes.
-pub(crate) fn whole64(bytes: &[u8], at: usize) -> u64
-    requires { at + 8 ≤ length bytes.now }
-    ensures { result ≡ number (part at 8 bytes.now) }
-{
-    (whole32(bytes, at) as u64) * 4294967296 + (whole32(bytes, at + 4) as u64)
-}
-
-// The number of the two bytes at a place; 0 where they are not all there.
-pub fn number16(bytes: &[u8], at: usize) -> u16
-    ensures { ReadsNumber 2 bytes.now at result }
-{
-    if holds(bytes, at, 2) {
-        whole16(bytes, at)
+    if holds(bytes, at, N::WIDTH) {
+        N::whole(bytes, at)
     } else {
-        0
-    }
-}
-
-// The same of four bytes.
-pub fn number32(bytes: &[u8], at: usize) -> u32
-    ensures { ReadsNumber 4 bytes.now at result }
-{
-    if holds(bytes, at, 4) {
-        whole32(bytes, at)
-    } else {
-        0
-    }
-}
-
-// The same of eight bytes.
-pub fn number64(bytes: &[u8], at: usize) -> u64
-    ensures { ReadsNumber 8 bytes.now at result }
-{
-    if holds(bytes, at, 8) {
-        whole64(bytes, at)
-    } else {
-        0
+        N::zero()
     }
 }

@@ -1,7 +1,7 @@
 // Realms: sixteen bytes, held as two numbers of eight.
 ghost use Rattle.words.specs.Realm.{ReadsRealm, TellsUnknown};
 
-use crate::number::{holds, whole64};
+use crate::number::{Number, holds};
 
 #[derive(Clone, Copy, PartialEq, Eq, PartialOrd, Ord)]
 pub struct Realm {
@@ -26,8 +26,8 @@ pub fn realm_at(bytes: &[u8], at: usize) -> Realm
 {
     if holds(bytes, at, 16) {
         Realm {
-            hi: whole64(bytes, at),
-            lo: whole64(bytes, at + 8),
+            hi: u64::whole(bytes, at),
+            lo: u64::whole(bytes, at + 8),
         }
     } else {
         Realm::ZERO

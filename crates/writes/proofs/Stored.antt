@@ -1,13 +1,12 @@
--- Bytes that are stored one after the other are the digits written. Assumes nothing.
-use mathlib.Core.Path.{◌≡◌, ◌∙◌, ap}
+-- A number's bytes, the highest first, are its digits; and they are written. Assumes nothing.
+use mathlib.Core.Path.{◌≡◌, refl, ◌∙◌}
 use mathlib.Core.Bool.{Bool, true, false}
-use mathlib.Core.List.{List, [], ◌∷◌, ◌++◌}
-use Prim.Native.Nat.{ℕ, suc, ◌+◌, ◌/◌, ◌%◌, ◌≤◌, ◌<◌}
+use mathlib.Core.List.{List, [], ◌∷◌}
+use Prim.Native.Nat.{ℕ, ◌+◌, ◌/◌, ◌%◌, ◌≤◌}
 use native.Mathlib.Omega.{arith}
-use lib.ListN.{length, set}
-use lib.Seq.{sets-eq}
-use Rattle.words.specs.Number.{within}
-use Rattle.words.specs.Writing.{digits, over, written}
+use lib.ListN.{length}
+use Rattle.words.specs.Number.{within, TellsWithin}
+use Rattle.words.specs.Writing.{digits, over, written, WritesNumber}
 use Rattle.words.specs.Realm.{realm_bytes}
 use Rattle.words.specs.declared.realm.Realm.{Realm}
 use Rattle.words.proofs.Written.{digits_length, over_next}
@@ -22,41 +21,38 @@ module _ {b : Bool} (at width : ℕ) (piece bytes : List ℕ) (l : length piece 
   unfolding written
   has_none t = simp (l, ← q, t)
 
--- two stores, and four
-pub stored_two : (bytes : List ℕ) (at n : ℕ) → at + 2 ≤ length bytes → n < 65536 → set (set bytes at (n / 256)) (at + 1) (n % 256) ≡ over at (digits 2 n) bytes
-unfolding over digits
-stored_two bytes at n h k =
-    let a : n / 256 % 256 ≡ n / 256 = omega arith in
-    let e : at + 1 ≡ suc at = omega arith in
-    rw (a, e) (sets-eq (n / 256 ∷ n % 256 ∷ []) bytes at h)
+-- a number that has room, and one that has none
+module _ {width wide at n : ℕ} {bytes after : List ℕ} {b : Bool} (same : wide ≡ width) (told : TellsWithin wide bytes at b) where
+  pub written_there : b ≡ true → after ≡ over at (digits width n) bytes → WritesNumber width n bytes at after
+  written_there p q = record { bytes_after = q ∙ has_room at width (digits width n) bytes (digits_length width n) (rw same at told.answer) p }
 
-pub stored : (bytes : List ℕ) (at n : ℕ) → at + 4 ≤ length bytes → n < 4294967296
-    → set (set (set (set bytes at (n / 16777216)) (at + 1) (n / 65536 % 256)) (at + 2) (n / 256 % 256)) (at + 3) (n % 256) ≡ over at (digits 4 n) bytes
-unfolding over digits
-stored bytes at n h k =
-    let a : n / 256 / 256 / 256 % 256 ≡ n / 16777216 = omega arith in
-    let b : n / 256 / 256 % 256 ≡ n / 65536 % 256 = omega arith in
-    let e : at + 1 ≡ suc at = omega arith in
-    let f : at + 2 ≡ suc (suc at) = omega arith in
-    let g : at + 3 ≡ suc (suc (suc at)) = omega arith in
-    rw (a, b, e, f, g) (sets-eq (n / 16777216 ∷ n / 65536 % 256 ∷ n / 256 % 256 ∷ n % 256 ∷ []) bytes at h)
+  pub written_nowhere : b ≡ false → after ≡ bytes → WritesNumber width n bytes at after
+  written_nowhere p q = record { bytes_after = q ∙ has_none at width (digits width n) bytes (digits_length width n) (rw same at told.answer) p }
 
--- a number by its two halves
-in_halves : (n : ℕ) → digits 4 (n / 4294967296) ++ digits 4 (n % 4294967296) ≡ digits 8 n
+pub two_digits : (n : ℕ) → n / 256 % 256 ∷ n % 256 ∷ [] ≡ digits 2 n
 unfolding digits
-in_halves n =
-    let q : n / 4294967296 ≡ n / 256 / 256 / 256 / 256 = omega arith in
-    let a : n % 4294967296 / 256 / 256 / 256 % 256 ≡ n / 256 / 256 / 256 % 256 = omega arith in
-    let b : n % 4294967296 / 256 / 256 % 256 ≡ n / 256 / 256 % 256 = omega arith in
-    let c : n % 4294967296 / 256 % 256 ≡ n / 256 % 256 = omega arith in
-    let d : n % 4294967296 % 256 ≡ n % 256 = omega arith in
-    rw (a, b, c, d, q)
+two_digits n = refl
 
-pub stored_halves : (bytes : List ℕ) (at n : ℕ) → at + 8 ≤ length bytes
-    → over (at + 4) (digits 4 (n % 4294967296)) (over at (digits 4 (n / 4294967296)) bytes) ≡ over at (digits 8 n) bytes
-stored_halves bytes at n h =
-    over_next at 4 (digits 4 (n / 4294967296)) (digits 4 (n % 4294967296)) bytes (digits_length 4 (n / 4294967296)) (omega arith)
-    ∙ ap (λ (xs : List ℕ). over at xs bytes) (in_halves n)
+pub four_digits : (n : ℕ) → n / 16777216 % 256 ∷ n / 65536 % 256 ∷ n / 256 % 256 ∷ n % 256 ∷ [] ≡ digits 4 n
+unfolding digits
+four_digits n =
+    let a : n / 16777216 ≡ n / 256 / 256 / 256 = omega arith in
+    let b : n / 65536 ≡ n / 256 / 256 = omega arith in
+    rw (a, b) refl
+
+pub eight_digits : (n : ℕ)
+    → n / 72057594037927936 % 256 ∷ n / 281474976710656 % 256 ∷ n / 1099511627776 % 256 ∷ n / 4294967296 % 256
+    ∷ n / 16777216 % 256 ∷ n / 65536 % 256 ∷ n / 256 % 256 ∷ n % 256 ∷ []
+    ≡ digits 8 n
+unfolding digits
+eight_digits n =
+    let a : n / 72057594037927936 ≡ n / 256 / 256 / 256 / 256 / 256 / 256 / 256 = omega arith in
+    let b : n / 281474976710656 ≡ n / 256 / 256 / 256 / 256 / 256 / 256 = omega arith in
+    let c : n / 1099511627776 ≡ n / 256 / 256 / 256 / 256 / 256 = omega arith in
+    let d : n / 4294967296 ≡ n / 256 / 256 / 256 / 256 = omega arith in
+    let e : n / 16777216 ≡ n / 256 / 256 / 256 = omega arith in
+    let f : n / 65536 ≡ n / 256 / 256 = omega arith in
+    rw (a, b, c, d, e, f) refl
 
 pub stored_realm : (bytes : List ℕ) (at : ℕ) (realm : Realm) → at + 16 ≤ length bytes
     → over (at + 8) (digits 8 realm.lo) (over at (digits 8 realm.hi) bytes) ≡ over at (realm_bytes realm) bytes

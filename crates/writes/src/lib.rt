@@ -4,5 +4,5 @@
 mod number;
 mod realm;
 
-pub use number::{write_number16, write_number32, write_number64};
+pub use number::{Store, write_number};
 pub use realm::write_realm;
