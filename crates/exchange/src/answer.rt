@@ -1,17 +1,13 @@
 // What a call answers, as C has it.
-ghost use Rattle.std.specs.Prelude.{◌≡◌, [], ◌∷◌};
-ghost use Rattle.words.specs.Said.{done, refused};
-ghost use Rattle.evaluate.specs.Evaluation.{verdict_says};
-ghost use Rattle.rights.specs.Deciding.{answer_says};
-ghost use Rattle.edit.specs.Editing.{edited_says};
-ghost use Rattle.table.specs.Reply.{reply_says};
+ghost use Rattle.std.specs.Prelude.{[], ◌∷◌};
+ghost use Rattle.words.specs.Said.{done};
+ghost use Rattle.words.specs.Refusal.{refusal_says};
 ghost use Rattle.exchange.specs.Meaning.{Means};
-ghost use Rattle.exchange.specs.Answer.{answer_of, answer_for, truth_says};
+ghost use Rattle.exchange.specs.Answer.{answer_of, answer_for, answered, truth_says};
 
-use edit::Edited;
-use evaluate::Verdict;
-use rights::Found;
-use table::Reply;
+use evaluate::Found;
+use tokens::Granted;
+use words::Refusal;
 
 // A field that a call does not use is 0.
 #[repr(C)]
@@ -30,112 +26,107 @@ pub struct Answer {
     pub last: u64,
 }
 
-fn ranged(value: u64, first: u64, last: u64) -> Answer
-    ensures { result ≡ answer_of (done (value ∷ first ∷ last ∷ [])) }
-{
-    Answer {
+impl Answer {
+    const DONE: Answer = Answer {
         refused: 0,
-        value: value,
-        detail: 0,
-        start: 0,
-        length: 0,
-        first,
-        last,
-    }
-}
-
-fn done(value: u64) -> Answer
-    ensures { result ≡ answer_of (done (value ∷ [])) }
-{
-    ranged(value, 0, 0)
-}
-
-fn refused(number: u8, detail: u64) -> Answer
-    ensures { result ≡ answer_of (refused number (detail ∷ [])) }
-{
-    Answer {
-        refused: number as u32,
         value: 0,
-        detail: detail,
+        detail: 0,
         start: 0,
         length: 0,
         first: 0,
         last: 0,
+    };
+}
+
+// What can be told to C.
+pub trait Told {
+    ghost meant: { Self → Answer };
+
+    fn told(self) -> Answer
+        ensures { Means (meant self) result };
+}
+
+impl Told for () {
+    ghost meant = { λ none. answer_of (done []) };
+
+    fn told(self) -> Answer {
+        Answer::DONE
     }
 }
 
-pub fn of_value(value: u64) -> Answer
-    ensures { Means (answer_of (done (value ∷ []))) result }
-{
-    done(value)
-}
+// Yes is 1, and no is 0.
+impl Told for bool {
+    ghost meant = { λ truth. answer_of (truth_says truth) };
 
-pub fn of_truth(truth: bool) -> Answer
-    ensures { Means (answer_of (truth_says truth)) result }
-{
-    if truth {
-        return done(1);
-    }
-    done(0)
-}
-
-pub fn of_verdict(verdict: Verdict) -> Answer
-    ensures { Means (answer_of (verdict_says verdict)) result }
-{
-    match verdict {
-        Verdict::Fine => done(0),
-        Verdict::Refused { number, place } => refused(number, place as u64),
+    fn told(self) -> Answer {
+        u64::from(self).told()
     }
 }
 
-pub fn of_edited(edited: Edited) -> Answer
-    ensures { Means (answer_of (edited_says edited)) result }
-{
-    match edited {
-        Edited::Length(n) => done(n as u64),
-        Edited::Refused { number } => refused(number, 0),
-        Edited::RefusedAt { number, place } => refused(number, place as u64),
+impl Told for u64 {
+    ghost meant = { λ value. answer_of (done (value ∷ [])) };
+
+    fn told(self) -> Answer {
+        Answer {
+            value: self,
+            ..Answer::DONE
+        }
     }
 }
 
-pub fn of_reply(reply: Reply) -> Answer
-    ensures { Means (answer_of (reply_says reply)) result }
-{
-    match reply {
-        Reply::Done => done(0),
-        Reply::Value(n) => done(n),
-        Reply::Granted {
-            number,
-            first,
-            last,
-        } => ranged(number, first, last),
-        Reply::Refused { number } => refused(number, 0),
-        Reply::RefusedWith { number, value } => refused(number, value),
+impl Told for usize {
+    ghost meant = { λ value. answer_of (done (value ∷ [])) };
+
+    fn told(self) -> Answer {
+        (self as u64).told()
     }
 }
 
-fn of_rights(answer: rights::Answer) -> Answer
-    ensures { result ≡ answer_of (answer_says answer) }
-{
-    match answer {
-        rights::Answer::Rights(n) => done(n as u64),
-        rights::Answer::Refused { number } => refused(number, 0),
-        rights::Answer::RefusedAt { number, place } => refused(number, place as u64),
+impl Told for Granted {
+    ghost meant = { λ g. answer_of (done (g.number ∷ g.first ∷ g.last ∷ [])) };
+
+    fn told(self) -> Answer {
+        Answer {
+            value: self.number,
+            first: self.first,
+            last: self.last,
+            ..Answer::DONE
+        }
     }
 }
 
-pub fn of_found(found: Found) -> Answer
-    ensures { Means (answer_for (answer_says found.answer) found.start found.size) result }
-{
-    let answer = found.answer;
-    let said = of_rights(answer);
-    Answer {
-        refused: said.refused,
-        value: said.value,
-        detail: said.detail,
-        start: found.start,
-        length: found.size,
-        first: said.first,
-        last: said.last,
+impl Told for Found {
+    ghost meant = { λ f. answer_for (done (f.rights ∷ [])) f.start f.size };
+
+    fn told(self) -> Answer {
+        Answer {
+            value: self.rights as u64,
+            start: self.start,
+            length: self.size,
+            ..Answer::DONE
+        }
+    }
+}
+
+impl Told for Refusal {
+    ghost meant = { λ refusal. answer_of (refusal_says refusal) };
+
+    fn told(self) -> Answer {
+        Answer {
+            refused: self.number() as u32,
+            detail: self.value().unwrap_or(0) as u64,
+            ..Answer::DONE
+        }
+    }
+}
+
+impl<T: Told> Told for Result<T, Refusal> {
+    ghost meant = { answered T.meant };
+
+    fn told(self) -> Answer {
+        match self {
+            Ok(value) => value.told(),
+            Err(refusal) => refusal.told(),
+        }
     }
 }

@@ -4,5 +4,5 @@
 mod answer;
 mod given;
 
-pub use answer::{Answer, of_edited, of_found, of_reply, of_truth, of_value, of_verdict};
+pub use answer::{Answer, Told};
 pub use given::{Caller, Claim, Entry, File, caller_of, claim_of, entry_of, file_of, guard_of};
