@@ -5,7 +5,7 @@ use mathlib.Core.List.{List, [], ◌∷◌}
 use Prim.Native.Nat.{ℕ}
 use lib.Dec.{eqb, ltb}
 use lib.ListN.{get_or}
-use Rattle.std.specs.Prelude.{Result, Ok, Err}
+use Rattle.std.specs.Prelude.{Option, None, Some, Result, Ok, Err, unwrap_or}
 use Rattle.words.specs.Said.{Said, done, refused}
 use Rattle.words.specs.Refusal.{number_of, refusal_number, refusal_value, values_in, refusal_says, says_by, plain_says, number_says}
 use Rattle.words.specs.declared.refusal.Fault.{Fault}
@@ -93,3 +93,9 @@ same_plain = same_says (λ none. []) (λ given. tt) (λ none. refl)
 
 pub same_number : {said : Said} (r r' : Result ℕ Refusal) → number_says r ≡ said → number_says r' ≡ said → r ≡ r'
 same_number = same_says (λ number. number ∷ []) (λ given. get_or given 0 0) (λ number. refl)
+
+-- what goes with a refusal, or 0
+pub first_value : (value : Option ℕ) → unwrap_or value 0 ≡ get_or (values_in value) 0 0
+unfolding values_in
+first_value None = refl
+first_value (Some value) = refl
