@@ -1,16 +1,15 @@
 -- Two outcomes that meet a statement are equal. Assumes nothing.
+use Rattle.std.specs.Prelude.{Option, None, Some}
 use mathlib.Core.Path.{◌≡◌, refl, sym, ◌∙◌}
 use mathlib.Core.List.{List, [], ◌∷◌}
 use Prim.Native.Nat.{ℕ}
 use lib.ListN.{get_or, drop}
-use Rattle.words.specs.Said.{Said, done, refused}
-use Rattle.words.proofs.Determined.{same_answer}
+use Rattle.words.proofs.Refusals.{same_says}
 use Rattle.records.specs.Reading.{record_values}
 use Rattle.records.proofs.Determined.{record_with}
-use Rattle.list.specs.Walking.{step_of, walk_values, step_says, Starts, Steps}
+use Rattle.list.specs.Walking.{Step, step_of, walk_values, met_values, Starts, Steps}
 use Rattle.list.specs.declared.walk.Walk.{Walk}
-use Rattle.list.specs.declared.walk.Step.{Step}
-use Rattle.list.specs.declared.walk.Step.TheVariants.{Next, Refused, End}
+use Rattle.records.specs.declared.records.Record.{Record}
 
 pub start_determined : (list : List ℕ) (r r' : Walk) → Starts list r → Starts list r' → r ≡ r'
 start_determined list r r' p q = p.answer ∙ sym q.answer
@@ -24,20 +23,18 @@ walk_with values = record {
   marks = get_or values 9 0;
 }
 
--- the step that says what was said
-unfoldable stepping : Said → Step
-stepping (done []) = End
-stepping (done (value ∷ more)) = Next (record_with (value ∷ more)) (walk_with (drop 6 (value ∷ more)))
-stepping (refused number values) = Refused number (get_or values 0 0)
+-- a record met and the walk after it, by their values
+back : List ℕ → Option (Record × Walk)
+back [] = None
+back (value ∷ more) = Some (record_with (value ∷ more), walk_with (drop 6 (value ∷ more)))
 
-stepping_of : (r : Step) → stepping (step_says r) ≡ r
-unfolding stepping step_says record_values walk_values record_with walk_with
-stepping_of (Next r walk) = refl
-stepping_of (Refused number place) = refl
-stepping_of End = refl
+inverse : (o : Option (Record × Walk)) → back (met_values o) ≡ o
+unfolding back met_values record_values walk_values record_with walk_with
+inverse None = refl
+inverse (Some (r, walk)) = refl
 
 pub step_determined : (walk : Walk) (list : List ℕ) (r r' : Step) → Steps walk list r → Steps walk list r' → r ≡ r'
-step_determined walk list r r' p q = same_answer step_says stepping stepping_of r r' p.answer q.answer
+step_determined walk list r r' p q = same_says met_values back inverse r r' p.answer q.answer
 
 -- so a step is what the walk comes to
 pub step_is : {walk : Walk} {list : List ℕ} {r : Step} → Steps walk list r → r ≡ step_of walk list

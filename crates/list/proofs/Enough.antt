@@ -1,14 +1,12 @@
 -- A list has no more records than bytes: a larger bound cuts it no further. Assumes nothing.
-use Rattle.std.specs.Prelude.{if◌then◌else◌}
+use Rattle.std.specs.Prelude.{if◌then◌else◌, None, Some, Ok, Err}
 use mathlib.Core.Path.{◌≡◌, refl, ap}
 use mathlib.Core.List.{List, [], ◌∷◌}
 use Prim.Native.Nat.{ℕ, zero, suc, ◌+◌, ◌≤◌}
 use native.Mathlib.Omega.{arith}
 use lib.Dec.{eqb}
 use lib.ListN.{length, drop, length-drop}
-use Rattle.records.specs.Reading.{read_of, when_whole}
-use Rattle.records.specs.declared.records.Read.{Read}
-use Rattle.records.specs.declared.records.Read.TheVariants.{Nothing, Unknown, Short, Whole}
+use Rattle.records.specs.Reading.{Read, read_of, when_whole}
 use Rattle.records.proofs.Tails.{within_tail}
 use Rattle.list.specs.Checking.{Found, found, cut_from, cut}
 
@@ -24,14 +22,13 @@ bounds (suc n) (suc m) at t h k = go (λ at u. bounds n m at u) (read_of t) refl
     go : ((at : ℕ) (u : List ℕ) → length u ≤ n → length u ≤ m → cut_from n at u ≡ cut_from m at u) → (read : Read) → read_of t ≡ read
         → (if eqb (length t) 0 then [] else found at read ∷ when_whole read (λ r. cut_from n (at + r.size) (drop r.size t)) [])
         ≡ (if eqb (length t) 0 then [] else found at read ∷ when_whole read (λ r. cut_from m (at + r.size) (drop r.size t)) [])
-    go ih Nothing q = refl
-    go ih Unknown q = refl
-    go ih Short q = refl
-    go ih (Whole r) q =
+    go ih (Ok None) q = refl
+    go ih (Err f) q = refl
+    go ih (Ok (Some r)) q =
         let s = within_tail t r q in
         let a : length (drop r.size t) ≤ n = omega (arith, length-drop r.size t) in
         let b : length (drop r.size t) ≤ m = omega (arith, length-drop r.size t) in
-        ap (λ (fs : List Found). if eqb (length t) 0 then [] else found at (Whole r) ∷ fs) (ih (at + r.size) (drop r.size t) a b)
+        ap (λ (fs : List Found). if eqb (length t) 0 then [] else found at (Ok (Some r)) ∷ fs) (ih (at + r.size) (drop r.size t) a b)
 
 pub enough : (list : List ℕ) (n : ℕ) → length list ≤ n → cut_from n 0 list ≡ cut list
 unfolding cut

@@ -1,5 +1,6 @@
 -- The marks of a walk say what the records so far have. Assumes nothing.
-use Rattle.std.specs.Prelude.{if◌then◌else◌}
+use Rattle.std.specs.Prelude.{if◌then◌else◌, None, Some}
+use Rattle.words.specs.declared.refusal.Fault.TheVariants.{ObjectMissing, MaskMissing, ControlMissing}
 use mathlib.Core.Path.{◌≡◌, refl, ◌∙◌, ap}
 use mathlib.Core.Bool.{Bool, true, false, not, ◌||◌, ◌&&◌}
 use Prim.Native.Nat.{ℕ, ◌+◌, ◌*◌, ◌/◌, ◌%◌}
@@ -103,20 +104,20 @@ module _ (n : ℕ) where
           absurd (h (ap (λ (m : ℕ). m % 4) s ∙ digits_mod (n / 8 / 2 / 2) (lit< tt)))
       go false b p q = refl
 
-  pub object_missing : (n % 8 ≡ 7 → ⊥) → 17 ≡ end_fault (seen_of n)
+  pub object_missing : (n % 8 ≡ 7 → ⊥) → Some ObjectMissing ≡ end_fault (seen_of n)
   unfolding end_fault seen_of
   object_missing h = simp (not_three h)
 
   module _ (h : n % 8 ≡ 7) where
-    pub mask_missing : n / 8 % 4 ≡ 2 → 18 ≡ end_fault (seen_of n)
+    pub mask_missing : n / 8 % 4 ≡ 2 → Some MaskMissing ≡ end_fault (seen_of n)
     unfolding end_fault seen_of
     mask_missing k = simp (all_three h, wanted k)
 
     module _ (k : n / 8 % 4 ≡ 2 → ⊥) where
-      pub control_missing : n / 32 % 2 ≡ 1 → 19 ≡ end_fault (seen_of n)
+      pub control_missing : n / 32 % 2 ≡ 1 → Some ControlMissing ≡ end_fault (seen_of n)
       unfolding end_fault seen_of bit
       control_missing c = simp (all_three h, not_wanted k, eq-eqb (n / 32 % 2) 1 c)
 
-      pub nothing_missing : (n / 32 % 2 ≡ 1 → ⊥) → 0 ≡ end_fault (seen_of n)
+      pub nothing_missing : (n / 32 % 2 ≡ 1 → ⊥) → None ≡ end_fault (seen_of n)
       unfolding end_fault seen_of bit
       nothing_missing c = simp (all_three h, not_wanted k, ne_eqb (n / 32 % 2) 1 c)

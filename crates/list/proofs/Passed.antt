@@ -1,5 +1,5 @@
 -- What the check promises of each record of a list that passes. Assumes nothing.
-use Rattle.std.specs.Prelude.{if◌then◌else◌}
+use Rattle.std.specs.Prelude.{if◌then◌else◌, Option, None, Some, Ok, Err}
 use mathlib.Core.Path.{◌≡◌, refl}
 use mathlib.Core.List.{List, [], ◌∷◌}
 use mathlib.Core.Bool.{Bool, true, false, not}
@@ -11,13 +11,13 @@ use lib.ListN.{length, get_or, drop}
 use Rattle.words.specs.Said.{Said, done, refused, and_then}
 use Rattle.words.specs.Realm.{unknown_realm, realm_at, same_realm}
 use Rattle.words.specs.declared.realm.Realm.{Realm}
+use Rattle.words.specs.declared.refusal.Fault.{Fault}
+use Rattle.words.specs.declared.refusal.Fault.TheVariants.{RightsAbove63, OutOfOrder, ForbiddenRealm}
 use Rattle.words.proofs.Tests.{or_left, Each}
 use Rattle.records.specs.Kind.{body, bodies, body_of}
-use Rattle.records.specs.Reading.{record_of, read_of, when_whole}
+use Rattle.records.specs.Reading.{Read, record_of, read_of, when_whole}
 use Rattle.records.specs.Standing.{rises, is_forbidden}
 use Rattle.records.specs.declared.records.Record.{Record}
-use Rattle.records.specs.declared.records.Read.{Read}
-use Rattle.records.specs.declared.records.Read.TheVariants.{Nothing, Unknown, Short, Whole}
 use Rattle.records.proofs.Tails.{Is, is, empty}
 use Rattle.list.specs.Fault.{begins, no_record, fault, end_fault}
 use Rattle.list.specs.Checking.{found, cut_from, cut, Placed, placed, wholes, records, refused_at, passed, faults_after, seen_in, check_says}
@@ -30,23 +30,21 @@ pub record Sound (home : Realm) (r : Record) : Type 0 where
 abbrev pub IsSound : Realm → Placed → Type 0
 IsSound home p = Sound home p.it
 
-pub no_refusal : (place number : ℕ) (rest : Said) (v : List ℕ) → and_then (refused_at place number) rest ≡ done v → (number ≡ 0) × (rest ≡ done v)
+pub no_refusal : (place : ℕ) (wrong : Option Fault) (rest : Said) (v : List ℕ) → and_then (refused_at place wrong) rest ≡ done v → (wrong ≡ None) × (rest ≡ done v)
 unfolding refused_at and_then
-no_refusal place number rest v = go (eqb number 0) refl
-  where
-    go : (b : Bool) → eqb number 0 ≡ b → and_then (if b then done [] else refused number (place ∷ [])) rest ≡ done v → (number ≡ 0) × (rest ≡ done v)
-    go true q p = (eqb-true number 0 q, p)
-    go false q p = let z : ◌≡◌ {A = ℕ} 0 1 = cc in absurd (omega arith)
+no_refusal place None rest v p = (refl, p)
+no_refusal place (Some fault) rest v p = cc
 
-sound : (home : Realm) (earlier r : Record) → fault home earlier (Whole r) ≡ 0 → Sound home r × (rises earlier r ≡ true)
+sound : (home : Realm) (earlier r : Record) → fault home earlier (Ok (Some r)) ≡ None → Sound home r × (rises earlier r ≡ true)
 unfolding fault
 sound home earlier r = go (ltb 63 r.rights) (rises earlier r) (is_forbidden home r) refl refl refl
   where
     go : (a b c : Bool) → ltb 63 r.rights ≡ a → rises earlier r ≡ b → is_forbidden home r ≡ c
-        → ◌≡◌ {A = ℕ} (if a then 14 else if not b then 15 else if c then 16 else 0) 0 → Sound home r × (rises earlier r ≡ true)
-    go true b c p o q h = absurd (omega arith)
-    go false false c p o q h = absurd (omega arith)
-    go false true true p o q h = absurd (omega arith)
+        → (if a then Some RightsAbove63 else if not b then Some OutOfOrder else if c then Some ForbiddenRealm else None) ≡ None
+        → Sound home r × (rises earlier r ≡ true)
+    go true b c p o q h = cc
+    go false false c p o q h = cc
+    go false true true p o q h = cc
     go false true false p o q h = (record { rights = p; realm = q }, o)
 
 -- a record may stand after an earlier one, and was read from some bytes
@@ -72,21 +70,17 @@ chained home earlier (suc fuel) at t v = go (λ e at u. chained home e fuel at u
         → faults_after home earlier (if b then [] else found at read ∷ when_whole read (λ r. cut_from fuel (at + r.size) (drop r.size t)) []) ≡ done v
         → Chain home earlier (wholes (if b then [] else found at read ∷ when_whole read (λ r. cut_from fuel (at + r.size) (drop r.size t)) []))
     go ih true read e q = tt
-    go ih false Nothing e q = tt
-    go ih false Unknown e q = tt
-    go ih false Short e q = tt
-    go ih false (Whole r) e q =
-        let n = no_refusal at (fault home earlier (Whole r)) (faults_after home r (cut_from fuel (at + r.size) (drop r.size t))) v q in
+    go ih false (Ok None) e q = tt
+    go ih false (Err f) e q = tt
+    go ih false (Ok (Some r)) e q =
+        let n = no_refusal at (fault home earlier (Ok (Some r))) (faults_after home r (cut_from fuel (at + r.size) (drop r.size t))) v q in
         let s = sound home earlier r n.0 in
         (record { sound = s.0; order = s.1; tail = t; read = is t r e }, ih r (at + r.size) (drop r.size t) n.1)
 
-no_last_refusal : (place number : ℕ) (v : List ℕ) → refused_at place number ≡ done v → number ≡ 0
+no_last_refusal : (place : ℕ) (wrong : Option Fault) (v : List ℕ) → refused_at place wrong ≡ done v → wrong ≡ None
 unfolding refused_at
-no_last_refusal place number v = go (eqb number 0) refl
-  where
-    go : (b : Bool) → eqb number 0 ≡ b → (if b then done [] else refused number (place ∷ [])) ≡ done v → number ≡ 0
-    go true q p = eqb-true number 0 q
-    go false q p = let z : ◌≡◌ {A = ℕ} 0 1 = cc in absurd (omega arith)
+no_last_refusal place None v p = refl
+no_last_refusal place (Some fault) v p = cc
 
 -- a list that passes: no refusal of it is earned
 pub record Passing (list : List ℕ) : Type 0 where
@@ -94,7 +88,7 @@ pub record Passing (list : List ℕ) : Type 0 where
   pub begun : begins list ≡ true
   pub values : List ℕ
   pub faultless : faults_after (realm_at 1 list) no_record (cut list) ≡ done values
-  pub ended : end_fault (seen_in (records list)) ≡ 0
+  pub ended : end_fault (seen_in (records list)) ≡ None
 
 pub passes : (list : List ℕ) → check_says list ≡ done [] → Passing list
 unfolding check_says and_then
@@ -103,8 +97,8 @@ passes list = go (ltb 4096 (length list)) (begins list) (faults_after (realm_at 
     go : (a b : Bool) (said : Said) → ltb 4096 (length list) ≡ a → begins list ≡ b → faults_after (realm_at 1 list) no_record (cut list) ≡ said
         → (if a then refused 10 (0 ∷ []) else if not b then refused 11 (0 ∷ []) else and_then said (refused_at (length list) (end_fault (seen_in (records list))))) ≡ done []
         → Passing list
-    go true b said h k p q = let z : ◌≡◌ {A = ℕ} 0 1 = cc in absurd (omega arith)
-    go false false said h k p q = let z : ◌≡◌ {A = ℕ} 0 1 = cc in absurd (omega arith)
+    go true b said h k p q = cc
+    go false false said h k p q = cc
     go false true (done v) h k p q = record {
       short = h;
       begun = k;
@@ -112,17 +106,15 @@ passes list = go (ltb 4096 (length list)) (begins list) (faults_after (realm_at 
       faultless = p;
       ended = no_last_refusal (length list) (end_fault (seen_in (records list))) [] q;
     }
-    go false true (refused number values) h k p q = let z : ◌≡◌ {A = ℕ} 0 1 = cc in absurd (omega arith)
+    go false true (refused number values) h k p q = cc
 
 -- a check that is done answers nothing
-end_alone : (said : Said) (place number : ℕ) (v : List ℕ) → and_then said (refused_at place number) ≡ done v → and_then said (refused_at place number) ≡ done []
+end_alone : (said : Said) (place : ℕ) (wrong : Option Fault) (v : List ℕ)
+    → and_then said (refused_at place wrong) ≡ done v → and_then said (refused_at place wrong) ≡ done []
 unfolding and_then refused_at
-end_alone (refused n values) place number v q = let z : ◌≡◌ {A = ℕ} 0 1 = cc in absurd (omega arith)
-end_alone (done values) place number v q = go (eqb number 0) q
-  where
-    go : (b : Bool) → (if b then done [] else refused number (place ∷ [])) ≡ done v → (if b then done [] else refused number (place ∷ [])) ≡ done []
-    go true q = refl
-    go false q = let z : ◌≡◌ {A = ℕ} 0 1 = cc in absurd (omega arith)
+end_alone (refused n values) place wrong v q = cc
+end_alone (done values) place None v q = refl
+end_alone (done values) place (Some fault) v q = cc
 
 pub no_values : (list v : List ℕ) → check_says list ≡ done v → check_says list ≡ done []
 unfolding check_says
@@ -132,8 +124,8 @@ no_values list v =
   where
     go : (a b : Bool) (rest : Said) → (rest ≡ done v → rest ≡ done []) → (if a then refused 10 (0 ∷ []) else if not b then refused 11 (0 ∷ []) else rest) ≡ done v
         → (if a then refused 10 (0 ∷ []) else if not b then refused 11 (0 ∷ []) else rest) ≡ done []
-    go true b rest ends q = let z : ◌≡◌ {A = ℕ} 0 1 = cc in absurd (omega arith)
-    go false false rest ends q = let z : ◌≡◌ {A = ℕ} 0 1 = cc in absurd (omega arith)
+    go true b rest ends q = cc
+    go false false rest ends q = cc
     go false true rest ends q = ends q
 
 pub all_follow : (list : List ℕ) → check_says list ≡ done [] → Chain (realm_at 1 list) no_record (records list)
@@ -162,19 +154,18 @@ module _ (x : ℕ) (xs : List ℕ) (q : check_says (x ∷ xs) ≡ done []) where
   unfolding begins list
   first_kind = eqb-true x 1 (passes (x ∷ xs) q).begun
 
-  head_passes : fault (realm_at 1 list) no_record (read_of list) ≡ 0
+  head_passes : fault (realm_at 1 list) no_record (read_of list) ≡ None
   unfolding cut cut_from faults_after found list
   head_passes =
       let p = passes (x ∷ xs) q in
       let some = ne_eqb (length (x ∷ xs)) 0 (λ e. omega arith) in
       (no_refusal 0 (fault (realm_at 1 list) no_record (read_of list)) (faults_after (realm_at 1 list) (passed (read_of list)) (when_whole (read_of list) (λ r. cut_from (length xs) (0 + r.size) (drop r.size list)) [])) p.values (rw some at p.faultless)).0
 
-  of_head : (read : Read) → read_of list ≡ read → fault (realm_at 1 list) no_record read ≡ 0 → same_realm (realm_at 1 list) unknown_realm ≡ false
+  of_head : (read : Read) → read_of list ≡ read → fault (realm_at 1 list) no_record read ≡ None → same_realm (realm_at 1 list) unknown_realm ≡ false
   unfolding fault is_forbidden list
-  of_head Nothing e h = absurd (omega (arith, empty list e))
-  of_head Unknown e h = absurd (omega arith)
-  of_head Short e h = absurd (omega arith)
-  of_head (Whole r) e h = rw (← named list r first_kind (is list r e)) (or_left _ _ (sound (realm_at 1 list) no_record r h).0.realm)
+  of_head (Ok None) e h = absurd (omega (arith, empty list e))
+  of_head (Err f) e h = cc
+  of_head (Ok (Some r)) e h = rw (← named list r first_kind (is list r e)) (or_left _ _ (sound (realm_at 1 list) no_record r h).0.realm)
 
 -- the default realm of a list that passes is known
 pub default_known : (list : List ℕ) → check_says list ≡ done [] → same_realm (realm_at 1 list) unknown_realm ≡ false

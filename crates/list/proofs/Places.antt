@@ -1,5 +1,5 @@
 -- The records of a list lie within it. Assumes nothing.
-use Rattle.std.specs.Prelude.{if◌then◌else◌}
+use Rattle.std.specs.Prelude.{if◌then◌else◌, None, Some, Ok, Err}
 use mathlib.Core.Path.{◌≡◌, refl}
 use mathlib.Core.List.{List, [], ◌∷◌}
 use mathlib.Core.Bool.{Bool, true, false}
@@ -8,9 +8,7 @@ use native.Mathlib.Omega.{arith}
 use lib.Dec.{eqb}
 use lib.ListN.{length, drop, length-drop}
 use Rattle.words.proofs.Tests.{Each}
-use Rattle.records.specs.Reading.{read_of, when_whole}
-use Rattle.records.specs.declared.records.Read.{Read}
-use Rattle.records.specs.declared.records.Read.TheVariants.{Nothing, Unknown, Short, Whole}
+use Rattle.records.specs.Reading.{Read, read_of, when_whole}
 use Rattle.records.proofs.Tails.{within_tail}
 use Rattle.list.specs.Checking.{found, cut_from, cut, Placed, placed, wholes, records}
 
@@ -26,10 +24,9 @@ cut_within (suc fuel) at t n h = go (λ at u. cut_within fuel at u n) (eqb (leng
     go : ((at : ℕ) (u : List ℕ) → at + length u ≤ n → Each (EndsBy n) (wholes (cut_from fuel at u))) → (b : Bool) (read : Read) → read_of t ≡ read
         → Each (EndsBy n) (wholes (if b then [] else found at read ∷ when_whole read (λ r. cut_from fuel (at + r.size) (drop r.size t)) []))
     go ih true read q = tt
-    go ih false Nothing q = tt
-    go ih false Unknown q = tt
-    go ih false Short q = tt
-    go ih false (Whole r) q =
+    go ih false (Ok None) q = tt
+    go ih false (Err f) q = tt
+    go ih false (Ok (Some r)) q =
         let s = within_tail t r q in
         let here : at + r.size ≤ n = omega arith in
         let rest : at + r.size + length (drop r.size t) ≤ n = omega (arith, length-drop r.size t) in

@@ -1,7 +1,7 @@
 -- A loop over the walk makes the check and passes through the list's records. What is said of the rest of the list is what is said
 -- of the whole, and what is gathered from the rest is what is gathered from the whole; a step says how that goes on.
 -- Assumes nothing.
-use Rattle.std.specs.Prelude.{if◌then◌else◌}
+use Rattle.std.specs.Prelude.{if◌then◌else◌, Option, None, Some, Ok, Err}
 use mathlib.Core.Path.{◌≡◌, refl, sym, ◌∙◌}
 use mathlib.Core.List.{List, [], ◌∷◌, foldl}
 use mathlib.Core.Bool.{Bool, true, false, cond, not, ◌||◌, ◌&&◌, or-false}
@@ -15,17 +15,18 @@ use lib.Seq.{drop-drop}
 use Rattle.words.specs.Test.{any_of}
 use Rattle.words.specs.Bit.{bit}
 use Rattle.words.specs.Said.{Said, done, refused, and_then}
-use Rattle.records.specs.Reading.{read_of, when_whole}
+use Rattle.words.specs.Refusal.{number_of, refusal_number, refusal_value, values_in, refusal_says}
+use Rattle.words.specs.declared.refusal.Fault.{Fault}
+use Rattle.words.specs.declared.refusal.Fault.TheVariants.{TooLong, NoDefaultRealm}
+use Rattle.words.specs.declared.refusal.Refusal.{Refusal}
+use Rattle.words.specs.declared.refusal.Refusal.TheVariants.{Faulty}
+use Rattle.records.specs.Reading.{Read, read_of, when_whole}
 use Rattle.records.specs.declared.records.Record.{Record}
-use Rattle.records.specs.declared.records.Read.{Read}
-use Rattle.records.specs.declared.records.Read.TheVariants.{Nothing, Unknown, Short, Whole}
 use Rattle.records.proofs.Tails.{within_tail, empty}
 use Rattle.list.specs.Fault.{begins, fault, Seen, end_fault}
-use Rattle.list.specs.Walking.{mark_of, seen_of, start_of, walk_after, refused_or, heard, step_of, Steps}
+use Rattle.list.specs.Walking.{Step, mark_of, seen_of, start_of, walk_after, refused_or, heard, step_of, Steps}
 use Rattle.list.specs.Checking.{Found, found, cut_from, cut, Placed, placed, wholes, records, refused_at, passed, faults_after, has, seen_in, check_says}
 use Rattle.list.specs.declared.walk.Walk.{Walk}
-use Rattle.list.specs.declared.walk.Step.{Step}
-use Rattle.list.specs.declared.walk.Step.TheVariants.{Next, Refused, End}
 use Rattle.list.proofs.Marks.{of, joined, marked}
 use Rattle.list.proofs.Determined.{step_is}
 
@@ -46,7 +47,7 @@ seeing_more : (marks at : ℕ) (r : Record) (rs : List Placed) → seeing (seen_
 unfolding seeing joined of seen_in has any_of placed
 seeing_more marks at r rs = rw (marked marks r) (simp one_more)
 
-wholes_whole : (at : ℕ) (r : Record) (fs : List Found) → wholes (found at (Whole r) ∷ fs) ≡ placed at r ∷ wholes fs
+wholes_whole : (at : ℕ) (r : Record) (fs : List Found) → wholes (found at (Ok (Some r)) ∷ fs) ≡ placed at r ∷ wholes fs
 unfolding wholes when_whole found placed
 wholes_whole at r fs = refl
 
@@ -68,7 +69,7 @@ record Onward (n : ℕ) (w : Walk) (l : List ℕ) (r : Record) (v : Walk) : Type
   some : 0 < r.size
   moved : v.at ≡ w.at + r.size
   inside : w.at + r.size ≤ length l
-  cuts : rest n w l ≡ found w.at (Whole r) ∷ rest fuel v l
+  cuts : rest n w l ≡ found w.at (Ok (Some r)) ∷ rest fuel v l
   says : rest_says w l (rest n w l) ≡ rest_says v l (rest fuel v l)
 
 record Over (n : ℕ) (w : Walk) (l : List ℕ) : Type 0 where
@@ -76,9 +77,9 @@ record Over (n : ℕ) (w : Walk) (l : List ℕ) : Type 0 where
   says : rest_says w l (rest n w l) ≡ done []
 
 Turn : ℕ → Walk → List ℕ → Step → Type 0
-Turn n w l (Next r v) = Onward n w l r v
-Turn n w l (Refused number place) = rest_says w l (rest n w l) ≡ refused number (place ∷ [])
-Turn n w l End = Over n w l
+Turn n w l (Ok None) = Over n w l
+Turn n w l (Ok (Some (r, v))) = Onward n w l r v
+Turn n w l (Err refusal) = rest_says w l (rest n w l) ≡ refusal_says refusal
 
 rest_none : (n : ℕ) (w : Walk) (l : List ℕ) → length l ≤ w.at → rest n w l ≡ []
 unfolding rest cut_from
@@ -96,29 +97,28 @@ module _ (w : Walk) (l : List ℕ) (short : ltb 4096 (length l) ≡ false) (begu
   unfolding rest_says faults_after and_then wholes
   says_none = simp (short, begun, seeing_none)
 
-  at_end : (n : ℕ) → length l ≤ w.at → Turn n w l (refused_or (end_fault (seen_of w.marks)) (length l) End)
-  unfolding Turn refused_or refused_at
-  at_end n h = go (eqb (end_fault (seen_of w.marks)) 0) refl
+  at_end : (n : ℕ) → length l ≤ w.at → Turn n w l (refused_or (end_fault (seen_of w.marks)) (length l) (Ok None))
+  unfolding Turn refused_or refused_at refusal_says refusal_number refusal_value values_in
+  at_end n h = go (end_fault (seen_of w.marks)) refl
     where
-      go : (b : Bool) → eqb (end_fault (seen_of w.marks)) 0 ≡ b → Turn n w l (if b then End else Refused (end_fault (seen_of w.marks)) (length l))
-      go true q = record { cuts = rest_none n w l h; says = rw (rest_none n w l h, says_none) (simp q) }
-      go false q = rw (rest_none n w l h, says_none) (simp q)
+      go : (o : Option Fault) → end_fault (seen_of w.marks) ≡ o → Turn n w l (refused_or o (length l) (Ok None))
+      go None q = record { cuts = rest_none n w l h; says = rw (rest_none n w l h, says_none) (simp q) }
+      go (Some fault) q = rw (rest_none n w l h, says_none) (simp q)
 
   -- a record that is refused is where the rest is cut
   module _ (n : ℕ) (f : Found) (fs : List Found) (cuts : rest n w l ≡ f ∷ fs) where
-    refused_here : (number : ℕ) → fault w.home w.earlier f.read ≡ number → eqb number 0 ≡ false
-        → rest_says w l (rest n w l) ≡ refused number (f.at ∷ [])
-    unfolding rest_says faults_after refused_at and_then
-    refused_here number q h = rw cuts (simp (short, begun, q, h))
+    refused_here : (wrong : Fault) → fault w.home w.earlier f.read ≡ Some wrong → rest_says w l (rest n w l) ≡ refusal_says (Faulty wrong f.at)
+    unfolding rest_says faults_after refused_at and_then refusal_says refusal_number refusal_value values_in
+    refused_here wrong q = rw cuts (simp (short, begun, q))
 
-  module _ (m : ℕ) (r : Record) (read : read_of (drop w.at l) ≡ Whole r) where
+  module _ (m : ℕ) (r : Record) (read : read_of (drop w.at l) ≡ Ok (Some r)) where
     next : Walk
     next = walk_after w r
 
     here : w.at < length l
     here = omega (arith, length-drop w.at l, within_tail (drop w.at l) r read)
 
-    cuts_whole : rest (suc m) w l ≡ found w.at (Whole r) ∷ rest m next l
+    cuts_whole : rest (suc m) w l ≡ found w.at (Ok (Some r)) ∷ rest m next l
     unfolding rest cut_from when_whole next walk_after
     cuts_whole = simp (some_left w l here, read, drop-drop)
 
@@ -126,11 +126,11 @@ module _ (w : Walk) (l : List ℕ) (short : ltb 4096 (length l) ≡ false) (begu
     unfolding next walk_after
     not_begin = ne_eqb (w.at + r.size) 0 (λ q. omega (arith, within_tail (drop w.at l) r read))
 
-    says_next : eqb (fault w.home w.earlier (Whole r)) 0 ≡ true → rest_says w l (rest (suc m) w l) ≡ rest_says next l (rest m next l)
+    says_next : fault w.home w.earlier (Ok (Some r)) ≡ None → rest_says w l (rest (suc m) w l) ≡ rest_says next l (rest m next l)
     unfolding rest_says faults_after refused_at and_then passed when_whole found next walk_after
     says_next q = rw cuts_whole (simp (short, begun, not_begin, q, wholes_whole, seeing_more))
 
-    passes : length l - w.at ≤ suc m → eqb (fault w.home w.earlier (Whole r)) 0 ≡ true → Onward (suc m) w l r (walk_after w r)
+    passes : length l - w.at ≤ suc m → fault w.home w.earlier (Ok (Some r)) ≡ None → Onward (suc m) w l r (walk_after w r)
     unfolding next walk_after
     passes h q =
         let s = within_tail (drop w.at l) r read in
@@ -144,30 +144,28 @@ module _ (w : Walk) (l : List ℕ) (short : ltb 4096 (length l) ≡ false) (begu
           says = says_next q;
         }
 
-    whole_turn : length l - w.at ≤ suc m → Turn (suc m) w l (heard w (Whole r))
+    whole_turn : length l - w.at ≤ suc m → Turn (suc m) w l (heard w (Ok (Some r)))
     unfolding Turn heard refused_or when_whole found
-    whole_turn h = go (eqb (fault w.home w.earlier (Whole r)) 0) refl
+    whole_turn h = go (fault w.home w.earlier (Ok (Some r))) refl
       where
-        go : (b : Bool) → eqb (fault w.home w.earlier (Whole r)) 0 ≡ b
-            → Turn (suc m) w l (if b then Next r (walk_after w r) else Refused (fault w.home w.earlier (Whole r)) w.at)
-        go true q = passes h q
-        go false q = refused_here (suc m) (found w.at (Whole r)) (rest m next l) cuts_whole (fault w.home w.earlier (Whole r)) refl q
+        go : (o : Option Fault) → fault w.home w.earlier (Ok (Some r)) ≡ o → Turn (suc m) w l (refused_or o w.at (Ok (Some (r, walk_after w r))))
+        go None q = passes h q
+        go (Some wrong) q = refused_here (suc m) (found w.at (Ok (Some r))) (rest m next l) cuts_whole wrong q
 
   heard_turn : (n : ℕ) → length l - w.at ≤ n → w.at < length l → (read : Read) → read_of (drop w.at l) ≡ read → Turn n w l (heard w read)
   unfolding Turn heard refused_or rest cut_from when_whole fault found
   heard_turn zero h k read q = absurd (omega arith)
-  heard_turn (suc m) h k Nothing q = absurd (omega (arith, length-drop w.at l, empty (drop w.at l) q))
-  heard_turn (suc m) h k Unknown q = refused_here (suc m) (found w.at Unknown) [] (simp (some_left w l k, q)) 12 refl refl
-  heard_turn (suc m) h k Short q = refused_here (suc m) (found w.at Short) [] (simp (some_left w l k, q)) 13 refl refl
-  heard_turn (suc m) h k (Whole r) q = whole_turn m r q h
+  heard_turn (suc m) h k (Ok None) q = absurd (omega (arith, length-drop w.at l, empty (drop w.at l) q))
+  heard_turn (suc m) h k (Ok (Some r)) q = whole_turn m r q h
+  heard_turn (suc m) h k (Err wrong) q = refused_here (suc m) (found w.at (Err wrong)) [] (simp (some_left w l k, q)) wrong refl
 
 -- what a step does, whatever it gives
 turn : (n : ℕ) (w : Walk) (l : List ℕ) → length l - w.at ≤ n → Turn n w l (step_of w l)
-unfolding Turn step_of rest_says
+unfolding Turn step_of rest_says refusal_says refusal_number number_of refusal_value values_in
 turn n w l h = go (ltb 4096 (length l)) (eqb w.at 0 && not (begins l)) (leb (length l) w.at) refl refl refl
   where
     go : (a b c : Bool) → ltb 4096 (length l) ≡ a → (eqb w.at 0 && not (begins l)) ≡ b → leb (length l) w.at ≡ c
-        → Turn n w l (if a then Refused 10 0 else if b then Refused 11 0 else if c then refused_or (end_fault (seen_of w.marks)) (length l) End else heard w (read_of (drop w.at l)))
+        → Turn n w l (if a then Err (Faulty TooLong 0) else if b then Err (Faulty NoDefaultRealm 0) else if c then refused_or (end_fault (seen_of w.marks)) (length l) (Ok None) else heard w (read_of (drop w.at l)))
     go true b c p q k = simp p
     go false true c p q k = simp (p, q)
     go false false true p q k = at_end w l p q n (leb-true (length l) w.at k)
@@ -192,7 +190,7 @@ module _ {A : Type 0} {f : A → Placed → A} {l : List ℕ} {first a : A} {w :
   turned : Turn so_far.fuel w l s
   turned = rw (step_is stepped) (turn so_far.fuel w l so_far.enough)
 
-  module _ {r : Record} {v : Walk} (q : s ≡ Next r v) where
+  module _ {r : Record} {v : Walk} (q : s ≡ Ok (Some (r, v))) where
     onward : Onward so_far.fuel w l r v
     unfolding Turn
     onward = rw q at turned
@@ -214,17 +212,17 @@ module _ {A : Type 0} {f : A → Placed → A} {l : List ℕ} {first a : A} {w :
     pub falls : length l - v.at < length l - w.at
     falls = let t = onward in omega (arith, t.moved, t.some, t.inside)
 
-  pub refuses : {number place : ℕ} → s ≡ Refused number place → check_says l ≡ refused number (place ∷ [])
+  pub refuses : {refusal : Refusal} → s ≡ Err refusal → check_says l ≡ refusal_says refusal
   unfolding Turn
   refuses q = so_far.says ∙ rw q at turned
 
-  over : s ≡ End → Over so_far.fuel w l
+  over : s ≡ Ok None → Over so_far.fuel w l
   unfolding Turn
   over q = rw q at turned
 
-  pub passes_all : s ≡ End → check_says l ≡ done []
+  pub passes_all : s ≡ Ok None → check_says l ≡ done []
   passes_all q = so_far.says ∙ (over q).says
 
-  pub gathers_all : s ≡ End → a ≡ foldl f first (records l)
+  pub gathers_all : s ≡ Ok None → a ≡ foldl f first (records l)
   unfolding wholes
   gathers_all q = sym (so_far.gathers ∙ rw (over q).cuts refl)

@@ -1,15 +1,15 @@
 -- A walk over a whole list says what the check says, and meets the list's records. Assumes nothing.
+use Rattle.std.specs.Prelude.{None, Some, Ok, Err}
 use mathlib.Core.Path.{◌≡◌, refl, sym, ◌∙◌, ap}
 use mathlib.Core.List.{List, [], ◌∷◌, ◌++◌, foldl, append_assoc, append-nil}
 use Prim.Native.Nat.{ℕ, zero, suc, ◌-◌, ◌<◌}
 use native.Mathlib.Omega.{arith}
 use lib.ListN.{length}
 use Rattle.words.specs.Said.{done}
+use Rattle.words.specs.Refusal.{refusal_says}
 use Rattle.list.specs.Checking.{Placed, placed, records, check_says}
-use Rattle.list.specs.Walking.{start_of, step_of, step_says, Steps, Run, meeting, run_from, run}
+use Rattle.list.specs.Walking.{Step, start_of, step_of, step_says, Steps, Run, meeting, run_from, run}
 use Rattle.list.specs.declared.walk.Walk.{Walk}
-use Rattle.list.specs.declared.walk.Step.{Step}
-use Rattle.list.specs.declared.walk.Step.TheVariants.{Next, Refused, End}
 use Rattle.list.proofs.Runs.{Leads, starts, goes, falls, refuses, passes_all, gathers_all}
 
 -- the records met so far are gathered
@@ -27,25 +27,25 @@ record Said-and-met (l : List ℕ) (so_far : List Placed) (r : Run) : Type 0 whe
 
 module _ (l : List ℕ) where
   from : (n : ℕ) (w : Walk) (so_far : List Placed) → length l - w.at < n → Leads met_too l [] so_far w → Said-and-met l so_far (run_from n w l)
-  unfolding run_from meeting met_too
+  unfolding run_from meeting met_too refusal_says
   from zero w so_far h leads = absurd (omega arith)
   from (suc n) w so_far h leads = go (λ v. from n v) (step_of w l) refl
     where
       go : ((v : Walk) (so_far : List Placed) → length l - v.at < n → Leads met_too l [] so_far v → Said-and-met l so_far (run_from n v l))
           → (s : Step) → step_of w l ≡ s → Said-and-met l so_far (meeting w.at s (λ v. run_from n v l))
-      go later (Next r v) q =
-          let stepped : Steps w l (Next r v) = record { answer = ap step_says (sym q) } in
+      go later (Ok (Some (r, v))) q =
+          let stepped : Steps w l (Ok (Some (r, v))) = record { answer = ap step_says (sym q) } in
           let f = falls stepped leads refl in
           let rest = later v (so_far ++ (placed w.at r ∷ [])) (omega arith) (goes stepped leads refl) in
           record { said = rest.said; met = λ d. sym (append_assoc so_far (placed w.at r ∷ []) _) ∙ rest.met d }
-      go later (Refused number place) q =
-          let stepped : Steps w l (Refused number place) = record { answer = ap step_says (sym q) } in
+      go later (Err refusal) q =
+          let stepped : Steps w l (Err refusal) = record { answer = ap step_says (sym q) } in
           record {
             said = sym (refuses stepped leads refl);
-            met = λ d. let z : ◌≡◌ {A = ℕ} 0 1 = cc in absurd (omega arith);
+            met = λ d. cc;
           }
-      go later End q =
-          let stepped : Steps w l End = record { answer = ap step_says (sym q) } in
+      go later (Ok None) q =
+          let stepped : Steps w l (Ok None) = record { answer = ap step_says (sym q) } in
           record {
             said = sym (passes_all stepped leads refl);
             met = λ d. append-nil so_far ∙ gathers_all stepped leads refl ∙ all_met [] (records l);

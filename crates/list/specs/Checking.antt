@@ -1,14 +1,15 @@
 -- A whole list: its records with their places, and what the check says of it.
-use Rattle.std.specs.Prelude.{Bool, not, List, [], ◌∷◌, ℕ, zero, suc, ◌+◌, eqb, ltb, length, drop, if◌then◌else◌}
+use Rattle.std.specs.Prelude.{Bool, not, List, [], ◌∷◌, ℕ, zero, suc, ◌+◌, eqb, ltb, length, drop, if◌then◌else◌, Option, None, Some}
 use Rattle.words.specs.Test.{any_of}
 use Rattle.words.specs.Said.{Said, done, refused, and_then}
 use Rattle.words.specs.Realm.{realm_at}
+use Rattle.words.specs.Refusal.{number_of}
+use Rattle.words.specs.declared.refusal.Fault.{Fault}
 use Rattle.words.specs.declared.realm.Realm.{Realm}
 use Rattle.records.specs.Kind.{wants_mask}
-use Rattle.records.specs.Reading.{read_of, when_whole}
+use Rattle.records.specs.Reading.{Read, read_of, when_whole}
 use Rattle.records.specs.Standing.{lacks_control}
 use Rattle.records.specs.declared.records.Record.{Record}
-use Rattle.records.specs.declared.records.Read.{Read}
 use Rattle.list.specs.Fault.{begins, no_record, fault, Seen, end_fault}
 
 -- a place of a list and what is read there
@@ -48,8 +49,9 @@ unfoldable pub records : List ℕ → List Placed
 records list = wholes (cut list)
 
 -- the refusal at a place, if there is one
-unfoldable pub refused_at : ℕ → ℕ → Said
-refused_at place number = if eqb number 0 then done [] else refused number (place ∷ [])
+unfoldable pub refused_at : ℕ → Option Fault → Said
+refused_at place None = done []
+refused_at place (Some fault) = refused (number_of fault) (place ∷ [])
 
 -- the record that the next one is compared with
 unfoldable pub passed : Read → Record

@@ -1,22 +1,19 @@
 // What is wrong with a record after the one before it, and with a list after its last record.
-ghost use Rattle.std.specs.Prelude.{◌≡◌, true, eqb};
+ghost use Rattle.std.specs.Prelude.{◌≡◌, true, eqb, Some, Ok};
 ghost use Rattle.words.specs.Realm.{zero_realm};
 ghost use Rattle.records.specs.Kind.{body_of};
 ghost use Rattle.records.specs.Standing.{is_forbidden};
-ghost use Rattle.records.specs.declared.records.Read.TheVariants.{Whole};
 ghost use Rattle.list.specs.Fault.{fault, end_fault};
 ghost use Rattle.list.specs.Walking.{mark_of, seen_of};
 
-use crate::refusal::{
-    CONTROL_MISSING, FORBIDDEN_REALM, MASK_MISSING, OBJECT_MISSING, OUT_OF_ORDER, RIGHTS_ABOVE_63,
-};
 use records::kind::{
     ANY_OTHER, DEFAULT_REALM, FOREIGN_USER, GROUP_OBJ, MASK_OBJ, OTHER_OBJ, USER_OBJ,
 };
 use records::{Record, in_order, is_forbidden, lacks_control};
-use words::Realm;
+use words::{Fault, Realm};
 
 // A forbidden realm in a record as it is read: where its kind has no realm it names none.
+#[tactic(auto, using(records::proofs::Bodies::unbarred))]
 fn is_barred(home: Realm, r: Record) -> bool
     requires { eqb (body_of r.kind).realm 0 ≡ true → r.realm ≡ zero_realm }
     ensures { result ≡ is_forbidden home r }
@@ -28,25 +25,27 @@ fn is_barred(home: Realm, r: Record) -> bool
     is_forbidden(home, r)
 }
 
-// 14, 15 or 16; 0 where the record, as it is read, may stand after the earlier one.
-pub(crate) fn fault_of(home: Realm, earlier: Record, r: Record) -> u8
+// 14, 15 or 16; none where the record, as it is read, may stand after the earlier one.
+#[tactic(auto, unfolding(crate::specs::Fault::fault))]
+pub(crate) fn fault_of(home: Realm, earlier: Record, r: Record) -> Option<Fault>
     requires { eqb (body_of r.kind).realm 0 ≡ true → r.realm ≡ zero_realm }
-    ensures { result ≡ fault home earlier (Whole r) }
+    ensures { result ≡ fault home earlier (Ok (Some r)) }
 {
     if 63 < r.rights {
-        return RIGHTS_ABOVE_63;
+        return Some(Fault::RightsAbove63);
     }
     if !in_order(earlier, r) {
-        return OUT_OF_ORDER;
+        return Some(Fault::OutOfOrder);
     }
     if is_barred(home, r) {
-        return FORBIDDEN_REALM;
+        return Some(Fault::ForbiddenRealm);
     }
-    0
+    None
 }
 
 // What a record leaves for the end of the list: 1 user_obj, 2 group_obj, 4 other_obj, 8 mask_obj, 16 a record that wants a
 // mask_obj, 32 more for a user_obj without control.
+#[tactic(auto, unfolding(crate::specs::Walking::mark_of, records::specs::Kind::wants_mask))]
 pub(crate) fn mark_of(r: Record) -> u8
     ensures { result ≡ mark_of r }
 {
@@ -72,18 +71,19 @@ pub(crate) fn mark_of(r: Record) -> u8
     0
 }
 
-// 17, 18 or 19; 0 where the list may end with these marks.
-pub(crate) fn end_fault(marks: u8) -> u8
+// 17, 18 or 19; none where the list may end with these marks.
+#[tactic(auto, using(crate::proofs::Marks::object_missing, crate::proofs::Marks::mask_missing, crate::proofs::Marks::control_missing, crate::proofs::Marks::nothing_missing))]
+pub(crate) fn end_fault(marks: u8) -> Option<Fault>
     ensures { result ≡ end_fault (seen_of marks) }
 {
     if marks % 8 != 7 {
-        return OBJECT_MISSING;
+        return Some(Fault::ObjectMissing);
     }
     if marks / 8 % 4 == 2 {
-        return MASK_MISSING;
+        return Some(Fault::MaskMissing);
     }
     if marks / 32 % 2 == 1 {
-        return CONTROL_MISSING;
+        return Some(Fault::ControlMissing);
     }
-    0
+    None
 }

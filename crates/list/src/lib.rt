@@ -2,10 +2,10 @@
 #![tactic(auto)]
 
 mod faults;
-pub mod refusal;
 mod walk;
 
 pub use records::{
-    Read, Record, bodies_in_order, in_order, is_forbidden, kind, lacks_control, read_record,
+    Record, bodies_in_order, in_order, is_forbidden, kind, lacks_control, read_record,
 };
-pub use walk::{LONGEST, Step, Walk};
+pub use walk::{LONGEST, Walk};
+pub use words::{Fault, Refusal};

@@ -1,5 +1,5 @@
 -- The order of records by their numbers is the order of their bytes. Assumes nothing.
-use Rattle.std.specs.Prelude.{if◌then◌else◌}
+use Rattle.std.specs.Prelude.{if◌then◌else◌, Some, Ok}
 use mathlib.Core.Path.{◌≡◌, refl, sym, ◌∙◌, ap}
 use mathlib.Core.List.{List, [], ◌∷◌, ◌++◌, append-nil}
 use mathlib.Core.Bool.{Bool, true, false, not, ◌&&◌}
@@ -17,7 +17,6 @@ use Rattle.records.specs.Reading.{record_of, read_of}
 use Rattle.records.specs.Standing.{rises}
 use Rattle.records.specs.Bytewise.{key, rises_in_bytes}
 use Rattle.records.specs.declared.records.Record.{Record}
-use Rattle.records.specs.declared.records.Read.TheVariants.{Whole}
 use Rattle.records.proofs.Bodies.{either, full, realm_length, id_length, some_size}
 use Rattle.records.proofs.Tails.{Is, is}
 
@@ -100,5 +99,5 @@ module _ (t u : List ℕ) (ht : Bytes t) (hu : Bytes u) where
         rw (← is-p.same, ← is-e.same, key_is t ft, key_is u fu) agrees
 
   -- a record may follow another by their numbers exactly when it may by their bytes
-  pub bytewise : (p e : Record) → read_of t ≡ Whole p → read_of u ≡ Whole e → rises p e ≡ rises_in_bytes t u
+  pub bytewise : (p e : Record) → read_of t ≡ Ok (Some p) → read_of u ≡ Ok (Some e) → rises p e ≡ rises_in_bytes t u
   bytewise p e rp re = in_bytes p e (is t p rp) (is u e re)

@@ -11,10 +11,11 @@ use lib.ListN.{length, get_or}
 use Rattle.words.specs.Number.{number_at}
 use Rattle.words.specs.Realm.{zero_realm, realm_at}
 use Rattle.records.specs.Kind.{body, body_of, body_length, is_known, size}
-use Rattle.records.specs.Reading.{record_of, read_as, read_of}
+use Rattle.records.specs.Reading.{Read, record_of, read_as, read_of, read_says, ReadsRecord}
 use Rattle.records.proofs.Bodies.{some_size}
 use Rattle.records.specs.declared.records.Record.{Record}
-use Rattle.records.specs.declared.records.Read.TheVariants.{Nothing, Unknown, Short, Whole}
+use Rattle.std.specs.Prelude.{None, Some, Ok, Err}
+use Rattle.words.specs.declared.refusal.Fault.TheVariants.{UnknownKind, CutShort}
 
 -- a whole record at the head of a tail
 pub record Is (t : List ℕ) (r : Record) : Type 0 where
@@ -22,16 +23,16 @@ pub record Is (t : List ℕ) (r : Record) : Type 0 where
   pub enough : size (get_or t 0 0) ≤ length t
   pub same : record_of (get_or t 0 0) t ≡ r
 
-pub is : (t : List ℕ) (r : Record) → read_of t ≡ Whole r → Is t r
+pub is : (t : List ℕ) (r : Record) → read_of t ≡ Ok (Some r) → Is t r
 unfolding read_of read_as
 is t r = go (eqb (length t) 0) (is_known (get_or t 0 0)) (ltb (length t) (size (get_or t 0 0))) refl refl
   where
     go : (a b c : Bool) → is_known (get_or t 0 0) ≡ b → ltb (length t) (size (get_or t 0 0)) ≡ c
-        → (if a then Nothing else if not b then Unknown else if c then Short else Whole (record_of (get_or t 0 0) t)) ≡ Whole r
+        → (if a then Ok None else if not b then Err UnknownKind else if c then Err CutShort else Ok (Some (record_of (get_or t 0 0) t))) ≡ Ok (Some r)
         → Is t r
-    go true b c h k q = let z : ◌≡◌ {A = ℕ} 0 1 = cc in absurd (omega arith)
-    go false false c h k q = let z : ◌≡◌ {A = ℕ} 0 1 = cc in absurd (omega arith)
-    go false true true h k q = let z : ◌≡◌ {A = ℕ} 0 1 = cc in absurd (omega arith)
+    go true b c h k q = cc
+    go false false c h k q = cc
+    go false true true h k q = cc
     go false true false h k q = record { known = h; enough = ltb-false (length t) (size (get_or t 0 0)) k; same = cc }
 
 -- it has its kind's length, and ends within the tail
@@ -39,7 +40,7 @@ pub sized : (t : List ℕ) (r : Record) → Is t r → r.size ≡ size (get_or t
 unfolding record_of
 sized t r i = sym (ap (λ (x : Record). x.size) i.same)
 
-pub within_tail : (t : List ℕ) (r : Record) → read_of t ≡ Whole r → (0 < r.size) × (r.size ≤ length t)
+pub within_tail : (t : List ℕ) (r : Record) → read_of t ≡ Ok (Some r) → (0 < r.size) × (r.size ≤ length t)
 within_tail t r q = let i = is t r q in let s = sized t r i in omega (arith, some_size (get_or t 0 0), i.enough)
 
 -- where its kind has no realm it names none
@@ -50,20 +51,20 @@ unplaced t r i none =
     sym (ap (λ (x : Record). x.realm) i.same) ∙ rw (k, none) refl
 
 -- only an empty tail has nothing to read
-pub empty : (t : List ℕ) → read_of t ≡ Nothing → length t ≡ 0
+pub empty : (t : List ℕ) → read_of t ≡ Ok None → length t ≡ 0
 unfolding read_of read_as
 empty t = go (eqb (length t) 0) (is_known (get_or t 0 0)) (ltb (length t) (size (get_or t 0 0))) refl
   where
     go : (a b c : Bool) → eqb (length t) 0 ≡ a
-        → (if a then Nothing else if not b then Unknown else if c then Short else Whole (record_of (get_or t 0 0) t)) ≡ Nothing
+        → (if a then Ok None else if not b then Err UnknownKind else if c then Err CutShort else Ok (Some (record_of (get_or t 0 0) t))) ≡ Ok None
         → length t ≡ 0
     go true b c h q = eqb-true (length t) 0 h
-    go false false c h q = let z : ◌≡◌ {A = ℕ} 0 1 = cc in absurd (omega arith)
-    go false true true h q = let z : ◌≡◌ {A = ℕ} 0 1 = cc in absurd (omega arith)
-    go false true false h q = let z : ◌≡◌ {A = ℕ} 0 1 = cc in absurd (omega arith)
+    go false false c h q = cc
+    go false true true h q = cc
+    go false true false h q = cc
 
 -- what a tail of a kind is read as, by the lengths of its kind's parts
-pub no_body : (k : ℕ) (t : List ℕ) → body_of k ≡ body 0 0 0 → Unknown ≡ read_as k t
+pub no_body : (k : ℕ) (t : List ℕ) → body_of k ≡ body 0 0 0 → Err UnknownKind ≡ read_as k t
 unfolding read_as is_known body_length body
 no_body k t q = simp q
 
@@ -76,17 +77,26 @@ module _ (k : ℕ) (t : List ℕ) (realm id rights : ℕ) (q : body_of k ≡ bod
   unfolding is_known body_length body
   known = rw q (lt-ltb 0 (realm + id + rights) some)
 
-  pub read_short : length t < 1 + realm + id + rights → Short ≡ read_as k t
+  pub read_short : length t < 1 + realm + id + rights → Err CutShort ≡ read_as k t
   unfolding read_as
   read_short h = simp (known, size_is, lt-ltb (length t) (1 + realm + id + rights) h)
 
   pub read_whole : 1 + realm + id + rights ≤ length t
-      → Whole (record {
+      → Ok (Some (record {
         kind = k;
         realm = if eqb realm 0 then zero_realm else realm_at 1 t;
         id = if eqb id 0 then 0 else number_at 4 (1 + realm) t;
         rights = if eqb rights 0 then 0 else get_or t (1 + realm + id) 0;
         size = 1 + realm + id + rights;
-      }) ≡ read_as k t
+      })) ≡ read_as k t
   unfolding read_as record_of body
   read_whole h = simp (known, size_is, le-ltb (length t) (1 + realm + id + rights) h, q)
+
+-- what a tail says is read, where it is empty and where it is not
+pub none : (t : List ℕ) → eqb (length t) 0 ≡ true → ReadsRecord t (Ok None)
+unfolding read_of
+none t e = record { answer = simp e }
+
+pub some : (t : List ℕ) → eqb (length t) 0 ≡ false → {r : Read} → r ≡ read_as (get_or t 0 0) t → ReadsRecord t r
+unfolding read_of
+some t e q = record { answer = simp e (ap read_says q) }

@@ -1,12 +1,17 @@
 -- One record, read from the part of the list that begins at it.
-use Rattle.std.specs.Prelude.{◌≡◌, not, List, [], ◌∷◌, ℕ, ◌+◌, eqb, ltb, length, get_or, if◌then◌else◌}
+use Rattle.std.specs.Prelude.{◌≡◌, not, List, [], ◌∷◌, ℕ, ◌+◌, eqb, ltb, length, get_or, if◌then◌else◌, Option, None, Some, Result, Ok, Err}
 use Rattle.words.specs.Said.{Said, done, refused}
 use Rattle.words.specs.Number.{number_at}
 use Rattle.words.specs.Realm.{zero_realm, realm_at}
+use Rattle.words.specs.Refusal.{number_of}
+use Rattle.words.specs.declared.refusal.Fault.{Fault}
+use Rattle.words.specs.declared.refusal.Fault.TheVariants.{UnknownKind, CutShort}
 use Rattle.records.specs.Kind.{body_of, is_known, size}
 use Rattle.records.specs.declared.records.Record.{Record}
-use Rattle.records.specs.declared.records.Read.{Read}
-use Rattle.records.specs.declared.records.Read.TheVariants.{Nothing, Unknown, Short, Whole}
+
+-- what stands at the head of a tail: a record, nothing where the tail is empty, or what is wrong there
+abbrev pub Read : Type 0
+Read = Result (Option Record) Fault
 
 -- what a record of a kind says, and its length; what its kind has not is zero
 unfoldable pub record_of : ℕ → List ℕ → Record
@@ -21,21 +26,20 @@ record_of kind tail = record {
 -- a tail that begins with a kind
 unfoldable pub read_as : ℕ → List ℕ → Read
 read_as kind tail =
-    if not (is_known kind) then Unknown else
-    if ltb (length tail) (size kind) then Short else
-    Whole (record_of kind tail)
+    if not (is_known kind) then Err UnknownKind else
+    if ltb (length tail) (size kind) then Err CutShort else
+    Ok (Some (record_of kind tail))
 
 -- what stands at the head of a tail
 unfoldable pub read_of : List ℕ → Read
-read_of tail = if eqb (length tail) 0 then Nothing else read_as (get_or tail 0 0) tail
+read_of tail = if eqb (length tail) 0 then Ok None else read_as (get_or tail 0 0) tail
 
 -- what follows from a whole record, or what stands in its place where there is none
 module _ {A : Type 0} where
   unfoldable pub when_whole : Read → (Record → A) → A → A
-  when_whole Nothing follows other = other
-  when_whole Unknown follows other = other
-  when_whole Short follows other = other
-  when_whole (Whole r) follows other = follows r
+  when_whole (Ok None) follows other = other
+  when_whole (Ok (Some r)) follows other = follows r
+  when_whole (Err fault) follows other = other
 
 -- a record's values: kind, realm, id, rights and length
 unfoldable pub record_values : Record → List ℕ
@@ -43,10 +47,9 @@ record_values r = r.kind ∷ r.realm.hi ∷ r.realm.lo ∷ r.id ∷ r.rights ∷
 
 -- what each reading says by 01's numbers; the place is that in the part, which begins at the record
 unfoldable pub read_says : Read → Said
-read_says Nothing = done []
-read_says Unknown = refused 12 (0 ∷ [])
-read_says Short = refused 13 (0 ∷ [])
-read_says (Whole r) = done (record_values r)
+read_says (Ok None) = done []
+read_says (Ok (Some r)) = done (record_values r)
+read_says (Err fault) = refused (number_of fault) (0 ∷ [])
 
 -- reading one record
 pub record ReadsRecord (tail : List ℕ) (r : Read) : Type 0 where

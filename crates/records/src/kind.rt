@@ -25,6 +25,7 @@ pub const FOREIGN_GROUP: u8 = 10;
 pub const FOREIGN_OTHER: u8 = 11;
 
 // It names a realm other than the default one.
+#[tactic(auto, using(crate::proofs::Bodies::foreign_told_lem))]
 pub(crate) fn is_foreign(kind: u8) -> bool
     ensures { result ≡ is_foreign kind }
 {

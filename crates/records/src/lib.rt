@@ -5,5 +5,5 @@ pub mod kind;
 mod records;
 mod standing;
 
-pub use records::{Read, Record, read_record};
+pub use records::{Record, read_record};
 pub use standing::{bodies_in_order, in_order, is_forbidden, lacks_control};

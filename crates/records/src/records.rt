@@ -6,7 +6,7 @@ ghost use Rattle.records.specs.Kind.{body, body_of};
 ghost use Rattle.records.specs.Reading.{read_as, ReadsRecord};
 
 use crate::kind::{ANY_OTHER, DEFAULT_REALM, FOREIGN_GROUP, FOREIGN_OTHER, GROUP, USER_OBJ};
-use words::{Realm, number32, realm_at};
+use words::{Fault, Realm, number32, realm_at};
 
 // What a record says, and its length with the kind's byte; what its kind has not is zero.
 #[derive(Clone, Copy)]
@@ -18,23 +18,12 @@ pub struct Record {
     pub size: usize,
 }
 
-// What stands at the head of a tail.
-#[derive(Clone, Copy)]
-pub enum Read {
-    // The tail is empty.
-    Nothing,
-    // The kind is unknown: 12.
-    Unknown,
-    // The body is cut short: 13.
-    Short,
-    Whole(Record),
-}
-
+#[tactic(auto, unfolding(words::specs::Realm::zero_realm))]
 fn realm_in(tail: &[u8], width: usize) -> Realm
     ensures { result ≡ (if eqb width 0 then zero_realm else realm_at 1 tail.now) }
 {
     if width == 0 {
-        return Realm { hi: 0, lo: 0 };
+        return Realm::ZERO;
     }
     realm_at(tail, 1)
 }
@@ -54,14 +43,18 @@ fn rights_in(tail: &[u8], width: usize, at: usize) -> u8
     if width == 0 {
         return 0;
     }
-    if tail.len() <= at {
-        return 0;
-    }
-    tail[at]
+    tail.get(at).copied().unwrap_or(0)
 }
 
 // A record whose kind has a body of these lengths.
-fn read_as(tail: &[u8], kind: u8, realm: usize, id: usize, rights: usize) -> Read
+#[tactic(auto, using(crate::proofs::Tails::read_short, crate::proofs::Tails::read_whole))]
+fn read_as(
+    tail: &[u8],
+    kind: u8,
+    realm: usize,
+    id: usize,
+    rights: usize,
+) -> Result<Option<Record>, Fault>
     requires { (body_of kind ≡ body realm id rights) × (0 < realm + id + rights) × (realm + id + rights ≤ 21) }
     ensures { result ≡ read_as kind tail.now }
 {
@@ -69,28 +62,28 @@ fn read_as(tail: &[u8], kind: u8, realm: usize, id: usize, rights: usize) -> Rea
     let rights_at = id_at + id;
     let size = rights_at + rights;
     if tail.len() < size {
-        return Read::Short;
+        return Err(Fault::CutShort);
     }
-    Read::Whole(Record {
-        kind: kind,
+    Ok(Some(Record {
+        kind,
         realm: realm_in(tail, realm),
         id: id_in(tail, id, id_at),
         rights: rights_in(tail, rights, rights_at),
-        size: size,
-    })
+        size,
+    }))
 }
 
-// The record that the tail begins with.
-pub fn read_record(tail: &[u8]) -> Read
+// The record that the tail begins with; none where it is empty.
+pub fn read_record(tail: &[u8]) -> Result<Option<Record>, Fault>
     ensures { ReadsRecord tail.now result }
 {
-    if tail.len() == 0 {
-        return Read::Nothing;
+    if tail.is_empty() {
+        return Ok(None);
     }
     let kind = tail[0];
     if kind <= ANY_OTHER {
         if kind < DEFAULT_REALM {
-            return Read::Unknown;
+            return Err(Fault::UnknownKind);
         }
         if kind < USER_OBJ {
             return read_as(tail, kind, 16, 0, 0);
@@ -106,5 +99,5 @@ pub fn read_record(tail: &[u8]) -> Read
     if kind <= FOREIGN_OTHER {
         return read_as(tail, kind, 16, 0, 1);
     }
-    Read::Unknown
+    Err(Fault::UnknownKind)
 }

@@ -3,24 +3,18 @@ ghost use Rattle.records.specs.Standing.{TellsBodies, TellsOrder, TellsForbidden
 
 use crate::kind::{DEFAULT_REALM, USER_OBJ, is_foreign};
 use crate::records::Record;
-use words::{Realm, is_unknown, same_realm};
+use words::{Realm, is_unknown};
 
 // By body without rights, of realm and then of id: the numbers' order is the bytes' order.
+#[tactic(auto, using(crate::proofs::Rising::by_parts))]
 pub fn bodies_in_order(earlier: Record, r: Record) -> bool
     ensures { TellsBodies earlier r result }
 {
-    let a = earlier.realm;
-    let b = r.realm;
-    if a.hi != b.hi {
-        return a.hi < b.hi;
-    }
-    if a.lo != b.lo {
-        return a.lo < b.lo;
-    }
-    earlier.id < r.id
+    (earlier.realm, earlier.id) < (r.realm, r.id)
 }
 
 // By kind, then by body.
+#[tactic(auto, unfolding(crate::specs::Standing::rises))]
 pub fn in_order(earlier: Record, r: Record) -> bool
     ensures { TellsOrder earlier r result }
 {
@@ -34,6 +28,7 @@ pub fn in_order(earlier: Record, r: Record) -> bool
 }
 
 // The unknown realm, or the default realm in a foreign record.
+#[tactic(auto, unfolding(crate::specs::Standing::is_forbidden, words::specs::Realm::same_realm))]
 pub fn is_forbidden(home: Realm, r: Record) -> bool
     ensures { TellsForbidden home r result }
 {
@@ -44,10 +39,11 @@ pub fn is_forbidden(home: Realm, r: Record) -> bool
     if !is_foreign(r.kind) {
         return false;
     }
-    same_realm(realm, home)
+    realm == home
 }
 
 // A user_obj without control.
+#[tactic(auto, unfolding(crate::specs::Standing::lacks_control))]
 pub fn lacks_control(r: Record) -> bool
     ensures { TellsPowerless r result }
 {

@@ -1,5 +1,6 @@
-use mathlib.Core.Path.{sym, ◌∙◌}
+use mathlib.Core.Path.{sym, ap, ◌∙◌}
 use native.Mathlib.Omega.{arith}
+use Rattle.std.specs.Prelude.{Ok}
 use Rattle.records.specs.Reading.{when_whole}
 use Rattle.records.proofs.Determined.{read_is}
 use Rattle.records.proofs.Tails.{is, within_tail, unplaced}
@@ -8,23 +9,17 @@ use Rattle.list.specs.Walking.{heard, refused_or}
 use Rattle.list.proofs.walk.Walk.hear.Goals as goal
 
 pub take-requires : goal.take-requires
-unfolding heard refused_or when_whole fault
 take-requires c =
-    let q = sym (read_is c.read_record.ensures) ∙ c.in-Whole.is in
-    record { size_bound = omega (arith, within_tail c.args.tail.now c.in-Whole.r q); realm_value = unplaced c.args.tail.now c.in-Whole.r (is c.args.tail.now c.in-Whole.r q) }
+    let q = sym (read_is c.read_record.ensures) ∙ c.in-Ok-Some.is ∙ ap Ok c.in-Ok-Some.field-0-is in
+    record { size_bound = omega (arith, within_tail c.args.tail.now c.in-Ok-Some.r q); realm_value = unplaced c.args.tail.now c.in-Ok-Some.r (is c.args.tail.now c.in-Ok-Some.r q) }
 
-pub returns-in-Nothing : goal.returns-in-Nothing
-unfolding heard refused_or when_whole fault
-returns-in-Nothing c = simp (← read_is c.read_record.ensures, c.in-Nothing.is)
+pub returns-in-Ok-Some : goal.returns-in-Ok-Some
+returns-in-Ok-Some c = simp (← read_is c.read_record.ensures, c.in-Ok-Some.is, c.in-Ok-Some.field-0-is, c.take.ensures)
 
-pub returns-in-Unknown : goal.returns-in-Unknown
+pub returns-in-Ok-None : goal.returns-in-Ok-None
 unfolding heard refused_or when_whole fault
-returns-in-Unknown c = simp (← read_is c.read_record.ensures, c.in-Unknown.is)
+returns-in-Ok-None c = simp (← read_is c.read_record.ensures, c.in-Ok-None.is, c.in-Ok-None.field-0-is)
 
-pub returns-in-Short : goal.returns-in-Short
+pub returns-in-Err : goal.returns-in-Err
 unfolding heard refused_or when_whole fault
-returns-in-Short c = simp (← read_is c.read_record.ensures, c.in-Short.is)
-
-pub returns-in-Whole : goal.returns-in-Whole
-unfolding heard refused_or when_whole fault
-returns-in-Whole c = simp (← read_is c.read_record.ensures, c.in-Whole.is, c.take.ensures)
+returns-in-Err c = simp (← read_is c.read_record.ensures, c.in-Err.is, c.at.ensures)
