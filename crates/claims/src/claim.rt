@@ -2,7 +2,7 @@
 ghost use Rattle.claims.specs.Claim.{TellsUnfit, TellsMalformed};
 
 // Twelve bytes.
-#[derive(Clone, Copy)]
+#[derive(Clone, Copy, PartialEq, Eq)]
 pub struct FileId {
     pub hi: u64,
     pub lo: u32,
@@ -19,6 +19,7 @@ pub struct Claim {
 }
 
 // Refusal 31 where no range is given: host 0, types 0 or above the limit.
+#[tactic(auto, unfolding(crate::specs::Claim::unfit))]
 pub fn is_unfit(host: u16, types: u16, limit: u16) -> bool
     ensures { TellsUnfit host types limit result }
 {
@@ -26,6 +27,7 @@ pub fn is_unfit(host: u16, types: u16, limit: u16) -> bool
 }
 
 // Refusal 31: unfit, or first above last.
+#[tactic(auto, unfolding(crate::specs::Claim::malformed))]
 pub fn is_malformed(claim: Claim, limit: u16) -> bool
     ensures { TellsMalformed claim limit result }
 {

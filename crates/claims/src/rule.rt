@@ -1,9 +1,9 @@
 // Which types of one claim conflict with another.
 ghost use Rattle.std.specs.Prelude.{◌≡◌};
-ghost use Rattle.claims.specs.Rule.{same_file, overlaps, Conflicts, TellsCover};
+ghost use Rattle.claims.specs.Rule.{overlaps, Conflicts, TellsCover};
 ghost use Rattle.claims.specs.Mask.{against, reach};
 
-use crate::claim::{Claim, FileId};
+use crate::claim::Claim;
 
 // The first types of the families, and the second ones.
 const FIRSTS: u16 = 0b0101_0101;
@@ -15,12 +15,7 @@ const ALL: u16 = 0b1111_1111;
 // Status and open.
 const WHOLE_FILE: u16 = 0b1100_1100;
 
-fn same_file(a: FileId, b: FileId) -> bool
-    ensures { result ≡ same_file a b }
-{
-    (a.hi == b.hi) & (a.lo == b.lo)
-}
-
+#[tactic(auto, unfolding(crate::specs::Rule::overlaps))]
 fn overlap(a: Claim, b: Claim) -> bool
     ensures { result ≡ overlaps a b }
 {
@@ -49,9 +44,7 @@ pub fn conflict(a: Claim, b: Claim) -> u16
     if a.host == b.host {
         return 0;
     }
-    let file = a.file;
-    let other = b.file;
-    if !same_file(file, other) {
+    if a.file != b.file {
         return 0;
     }
     (a.types & against_types(b.types)) & reached(overlap(a, b))

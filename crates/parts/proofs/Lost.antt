@@ -1,29 +1,32 @@
 -- What is refused and what stays, by the tests that the code makes. Assumes nothing.
 use mathlib.Core.Path.{◌≡◌, refl, ◌∙◌}
-use mathlib.Core.Bool.{Bool, true, false, not}
+use mathlib.Core.Bool.{Bool, true, false}
 use mathlib.Core.List.{[], ◌∷◌, ◌++◌}
 use Prim.Native.Nat.{ℕ, ◌+◌, ◌-◌, ◌≤◌, ◌<◌}
 use borrow.Author.Tests.{ne_eqb, lt-ltb, le-ltb}
-use Rattle.claims.specs.Types.{without}
+use Rattle.std.specs.Prelude.{None, Some}
+use Rattle.words.specs.Refusal.{refusal_number, refusal_value, values_in, refusal_says}
+use Rattle.words.specs.declared.refusal.Refusal.TheVariants.{TypeLacking, NoSuchPart}
+use Rattle.claims.specs.Types.{without, lacks}
 use Rattle.claims.specs.Claim.{with_types, with_range}
 use Rattle.claims.specs.declared.claim.Claim.{Claim}
-use Rattle.parts.specs.Part.{is_whole, is_part, is_givable, first_refusal, types_left, bytes_before, bytes_after, kept, refusal_says, claims_in, Stays}
+use Rattle.parts.specs.Part.{is_whole, is_part, is_givable, first_refusal, types_left, bytes_before, bytes_after, kept, loss_says, unless, Refuses, claims_in, Stays}
 use Rattle.parts.specs.declared.losing.Kept.{Kept}
 use Rattle.parts.specs.declared.losing.Kept.TheVariants.{Nothing, One, Two}
 
 -- 37, 38
-module _ (lacking fits : Bool) where
-  pub type_lacking : lacking ≡ true → refusal_says 37 ≡ first_refusal lacking fits
-  unfolding first_refusal refusal_says
-  type_lacking e = rw e refl
+module _ (types first last : ℕ) (held : Claim) {lacking fits : Bool} (lacks-is : lacking ≡ lacks held.types types) (fits-is : fits ≡ is_givable types first last held) where
+  pub type_lacking : lacking ≡ true → Refuses types first last held (Some TypeLacking)
+  unfolding loss_says first_refusal unless refusal_says refusal_number refusal_value values_in
+  type_lacking e = record { answer = rw (← lacks-is, e) refl }
 
-  pub no_such_part : lacking ≡ false → not fits ≡ true → refusal_says 38 ≡ first_refusal lacking fits
-  unfolding first_refusal refusal_says
-  no_such_part e f = rw (e, f) refl
+  pub no_such_part : lacking ≡ false → fits ≡ false → Refuses types first last held (Some NoSuchPart)
+  unfolding loss_says first_refusal unless refusal_says refusal_number refusal_value values_in
+  no_such_part e f = record { answer = rw (← lacks-is, ← fits-is, e, f) refl }
 
-  pub none_refused : lacking ≡ false → not fits ≡ false → refusal_says 0 ≡ first_refusal lacking fits
-  unfolding first_refusal refusal_says
-  none_refused e f = rw (e, f) refl
+  pub none_refused : lacking ≡ false → fits ≡ true → Refuses types first last held None
+  unfolding loss_says first_refusal unless
+  none_refused e f = record { answer = rw (← lacks-is, ← fits-is, e, f) refl }
 
 module _ (types first last : ℕ) (held : Claim) where
   -- the whole range, or a part

@@ -1,6 +1,8 @@
 -- Return takes a range as well: what it leaves of a token's claim.
-use Rattle.std.specs.Prelude.{◌≡◌, Bool, not, ◌||◌, ◌&&◌, List, [], ◌∷◌, ◌++◌, ℕ, zero, suc, ◌+◌, ◌-◌, eqb, leb, ltb, if◌then◌else◌}
+use Rattle.std.specs.Prelude.{◌≡◌, Option, None, Some, Bool, not, ◌||◌, ◌&&◌, List, [], ◌∷◌, ◌++◌, ℕ, ◌+◌, ◌-◌, eqb, leb, ltb, if◌then◌else◌}
 use Rattle.words.specs.Said.{Said, done, refused}
+use Rattle.words.specs.Refusal.{refusal_says}
+use Rattle.words.specs.declared.refusal.Refusal.{Refusal}
 use Rattle.claims.specs.Types.{without, lacks}
 use Rattle.claims.specs.Claim.{with_types, with_range}
 use Rattle.claims.specs.Rule.{some_cover}
@@ -43,14 +45,14 @@ bytes_after last held = if ltb last held.last then with_range held (last + 1) he
 unfoldable pub kept : ℕ → ℕ → ℕ → Claim → List Claim
 kept types first last held = if is_whole first last held then types_left types held else bytes_before first held ++ bytes_after last held
 
--- a refusal by its number, or 0
-unfoldable pub refusal_says : ℕ → Said
-refusal_says zero = done []
-refusal_says (suc n) = refused (suc n) []
+-- no refusal, or this one
+unfoldable pub unless : Option Refusal → Said
+unless None = done []
+unless (Some refusal) = refusal_says refusal
 
 -- telling the refusal
-pub record Refuses (types first last : ℕ) (held : Claim) (r : ℕ) : Type 0 where
-  pub answer : refusal_says r ≡ loss_says types first last held
+pub record Refuses (types first last : ℕ) (held : Claim) (r : Option Refusal) : Type 0 where
+  pub answer : unless r ≡ loss_says types first last held
 
 -- the claims, in their order
 unfoldable pub claims_in : Kept → List Claim

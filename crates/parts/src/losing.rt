@@ -1,12 +1,11 @@
 // The claims that stay of a token, by the types and the range that are given back.
 ghost use Rattle.std.specs.Prelude.{◌≡◌, ◌++◌, ◌+◌, ◌-◌, ◌<◌};
 ghost use Rattle.claims.specs.Types.{lacks, without};
-ghost use Rattle.claims.specs.Claim.{with_types, with_range};
-ghost use Rattle.parts.specs.Part.{is_whole, is_part, is_givable, first_refusal, bytes_before, bytes_after, types_left, refusal_says, Refuses, claims_in, Stays};
+ghost use Rattle.claims.specs.Claim.{with_range};
+ghost use Rattle.parts.specs.Part.{is_whole, is_part, is_givable, bytes_before, bytes_after, types_left, Refuses, claims_in, Stays};
 
 use claims::{Claim, covers_file};
-use table::refusal::{NO_SUCH_PART, TYPE_LACKING};
-use widest::{Range, with_range};
+use words::Refusal;
 
 // The types of a set are its lowest eight bits.
 const ALL: u16 = 0b1111_1111;
@@ -27,6 +26,7 @@ fn is_lacking(held: u16, types: u16) -> bool
 }
 
 // The range is the token's own.
+#[tactic(auto, unfolding(crate::specs::Part::is_whole))]
 fn is_whole(held: Claim, first: u64, last: u64) -> bool
     ensures { result ≡ is_whole first last held }
 {
@@ -34,6 +34,7 @@ fn is_whole(held: Claim, first: u64, last: u64) -> bool
 }
 
 // A part may be given back by its bytes if it is inside, names all types, and none of them covers the whole file.
+#[tactic(auto, unfolding(crate::specs::Part::is_part))]
 fn is_part(held: Claim, types: u16, first: u64, last: u64) -> bool
     ensures { result ≡ is_part types first last held }
 {
@@ -41,34 +42,25 @@ fn is_part(held: Claim, types: u16, first: u64, last: u64) -> bool
 }
 
 // The whole range, or a part that may be given back.
+#[tactic(auto, unfolding(crate::specs::Part::is_givable))]
 fn is_givable(held: Claim, types: u16, first: u64, last: u64) -> bool
     ensures { result ≡ is_givable types first last held }
 {
-    if is_whole(held, first, last) {
-        return true;
-    }
-    is_part(held, types, first, last)
+    is_whole(held, first, last) || is_part(held, types, first, last)
 }
 
-// 37 comes before 38; 0 where neither does.
-fn first_refusal(lacking: bool, fits: bool) -> u8
-    ensures { refusal_says result ≡ first_refusal lacking fits }
-{
-    if lacking {
-        return TYPE_LACKING;
-    }
-    if !fits {
-        return NO_SUCH_PART;
-    }
-    0
-}
-
-// Refusal 37 or 38, or 0 where there is none.
-pub fn loss_refusal(held: Claim, types: u16, first: u64, last: u64) -> u8
+// Refusal 37, or else 38.
+#[tactic(auto, using(crate::proofs::Lost::type_lacking, crate::proofs::Lost::no_such_part, crate::proofs::Lost::none_refused))]
+pub fn loss_refusal(held: Claim, types: u16, first: u64, last: u64) -> Option<Refusal>
     ensures { Refuses types first last held result }
 {
-    let lacking = is_lacking(held.types, types);
-    first_refusal(lacking, is_givable(held, types, first, last))
+    if is_lacking(held.types, types) {
+        return Some(Refusal::TypeLacking);
+    }
+    if !is_givable(held, types, first, last) {
+        return Some(Refusal::NoSuchPart);
+    }
+    None
 }
 
 // The types that are not named.
@@ -79,22 +71,8 @@ fn types_but(held: u16, types: u16) -> u16
     all - (all & types)
 }
 
-fn with_types(held: Claim, types: u16) -> Claim
-    ensures { result ≡ with_types held types }
-{
-    let file = held.file;
-    let first = held.first;
-    let last = held.last;
-    Claim {
-        types,
-        host: held.host,
-        file,
-        first,
-        last,
-    }
-}
-
 // What stays where the whole range is given back.
+#[tactic(auto, using(crate::proofs::Lost::no_type, crate::proofs::Lost::some_type_lem))]
 fn rest(held: Claim, types: u16) -> Kept
     ensures { claims_in result ≡ types_left types held }
 {
@@ -103,7 +81,10 @@ fn rest(held: Claim, types: u16) -> Kept
         return Kept::Nothing;
     }
     Kept::One {
-        claim: with_types(held, kept),
+        claim: Claim {
+            types: kept,
+            ..held
+        },
     }
 }
 
@@ -111,25 +92,24 @@ fn left_of(held: Claim, first: u64) -> Claim
     requires { held.first < first }
     ensures { result ≡ with_range held held.first (first - 1) }
 {
-    let before = Range {
-        first: held.first,
+    Claim {
         last: first - 1,
-    };
-    with_range(held, before)
+        ..held
+    }
 }
 
 fn right_of(held: Claim, last: u64) -> Claim
     requires { last < held.last }
     ensures { result ≡ with_range held (last + 1) held.last }
 {
-    let after = Range {
+    Claim {
         first: last + 1,
-        last: held.last,
-    };
-    with_range(held, after)
+        ..held
+    }
 }
 
 // What stays on either side of a part.
+#[tactic(auto, using(crate::proofs::Lost::on_neither, crate::proofs::Lost::on_the_right, crate::proofs::Lost::on_the_left, crate::proofs::Lost::on_both))]
 fn remainders(held: Claim, first: u64, last: u64) -> Kept
     ensures { claims_in result ≡ bytes_before first held ++ bytes_after last held }
 {
@@ -153,6 +133,7 @@ fn remainders(held: Claim, first: u64, last: u64) -> Kept
 }
 
 // The claims that stay, the first of them under the token's own number.
+#[tactic(auto, using(crate::proofs::Lost::of_whole, crate::proofs::Lost::of_other))]
 pub fn stays(held: Claim, types: u16, first: u64, last: u64) -> Kept
     ensures { Stays types first last held result }
 {

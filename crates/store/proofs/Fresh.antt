@@ -1,11 +1,10 @@
 -- A table that is filled. Assumes nothing.
 use mathlib.Core.Path.{◌≡◌, refl, sym, ◌∙◌, ap}
-use mathlib.Core.List.{List, [], ◌∷◌, ◌++◌, map, append-nil}
-use Prim.Native.Nat.{ℕ, zero, suc, ◌+◌, ◌*◌, ◌≤◌, ◌<◌}
-use native.Mathlib.Numerals.{add-one}
+use mathlib.Core.List.{List, [], ◌++◌, map}
+use Prim.Native.Nat.{ℕ, zero, suc, ◌+◌, ◌*◌, ◌≤◌}
 use native.Mathlib.Omega.{arith}
-use lib.ListN.{length, drop, set, replicate, length-set, length-replicate, replicate-append-replicate, drop_of_length-le}
-use lib.Seq.{drop-cons, set_at, append_snoc, set-append_left}
+use lib.ListN.{length, set, replicate, length-set, length-replicate, replicate-append-replicate}
+use lib.Seq.{set-append_left}
 use Rattle.words.specs.Said.{done, left}
 use Rattle.words.specs.Writing.{digits, over, written}
 use Rattle.words.proofs.Written.{digits_length, over_length, over_front, written_all}
@@ -14,30 +13,6 @@ use Rattle.table.specs.Layout.{width, slot_bytes, header_bytes, count, joined, b
 use Rattle.table.specs.Fill.{filled}
 use Rattle.table.specs.declared.slot.Slot.TheVariants.{Free}
 use Rattle.table.proofs.Cuts.{Sized}
-
--- the first i bytes are cleared
-pub record Cleared (old bytes : List ℕ) (i : ℕ) : Type 0 where
-  pub within : i ≤ length old
-  pub same : length bytes ≡ length old
-  pub so_far : bytes ≡ replicate i 0 ++ drop i old
-
-pub none_cleared : (old : List ℕ) → Cleared old old 0
-none_cleared old = record { within = omega arith; same = refl; so_far = refl }
-
-module _ (old bytes : List ℕ) (i : ℕ) (c : Cleared old bytes i) where
-  pub one_cleared : i < length old → Cleared old (set bytes i 0) (i + 1)
-  one_cleared h =
-      let front : replicate i 0 ++ 0 ∷ drop (suc i) old ≡ replicate (i + 1) 0 ++ drop (i + 1) old =
-      sym (append_snoc (replicate i 0) 0 (drop (suc i) old)) ∙ rw (replicate-append-replicate {A = ℕ} i 1 0, add-one i) refl in
-      let now : set bytes i 0 ≡ replicate (i + 1) 0 ++ drop (i + 1) old =
-      ap (λ (s : List ℕ). set s i 0) (c.so_far ∙ ap (λ (s : List ℕ). replicate i 0 ++ s) (drop-cons old i 0 h))
-      ∙ set_at (replicate i 0) _ (drop (suc i) old) 0 i (length-replicate i 0) ∙ front in
-      record { within = omega arith; same = simp length-set c.same; so_far = now }
-
-  pub all_cleared : length old ≤ i → bytes ≡ replicate (length old) 0
-  all_cleared h =
-      let e : i ≡ length old = omega (arith, c.within) in
-      c.so_far ∙ rw (drop_of_length-le old h, e) (append-nil (replicate (length old) 0))
 
 free_slots : (n : ℕ) → joined (map slot_bytes (replicate n Free)) ≡ replicate (width * n) 0
 unfolding joined slot_bytes

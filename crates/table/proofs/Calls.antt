@@ -3,13 +3,14 @@ use mathlib.Core.Path.{◌≡◌, refl, sym}
 use mathlib.Core.Bool.{true, false}
 use mathlib.Core.List.{List, []}
 use Prim.Native.Nat.{ℕ}
+use Rattle.std.specs.Prelude.{Err}
 use Rattle.words.specs.Said.{Said, refused, left}
+use Rattle.words.specs.Refusal.{refusal_says, says_by}
+use Rattle.words.specs.declared.refusal.Refusal.{Refusal}
 use Rattle.table.specs.Table.{Table}
 use Rattle.table.specs.Layout.{table_of, bytes_of}
 use Rattle.table.specs.Form.{well_formed}
-use Rattle.table.specs.Reply.{reply_says}
 use Rattle.table.specs.Call.{says_of, left_of}
-use Rattle.table.specs.declared.reply.Reply.TheVariants.{Refused}
 
 module _ (says : Table → Said) (bytes : List ℕ) where
   pub says_ill : well_formed bytes ≡ false → says_of says bytes ≡ refused 30 []
@@ -25,10 +26,11 @@ module _ (says : Table → Said) (bytes : List ℕ) where
     unfolding left_of left
     left_refused e = rw e refl
 
-    -- both of a refusal without values: what it says, and that nothing is changed
-    pub refusing : (number : ℕ) → says_of says bytes ≡ refused number [] → (reply_says (Refused number) ≡ says_of says bytes) × (bytes ≡ left_of says changed bytes)
-    unfolding reply_says
-    refusing number e = (sym e, sym (left_refused e))
+    -- both of a refusal: what it says, and that nothing is changed
+    pub refusing : {A : Type 0} (values : A → List ℕ) (refusal : Refusal) → says_of says bytes ≡ refusal_says refusal
+        → (says_by values (Err refusal) ≡ says_of says bytes) × (bytes ≡ left_of says changed bytes)
+    unfolding says_by refusal_says
+    refusing values refusal e = (sym e, sym (left_refused e))
 
     pub left_by : {said : Said} → says_of says bytes ≡ said → left_of says changed bytes ≡ left said (bytes_of (changed (table_of bytes))) bytes
     unfolding left_of

@@ -10,30 +10,8 @@ use Rattle.words.specs.Said.{Said, done, refused}
 use Rattle.words.proofs.Determined.{same_answer}
 use Rattle.table.specs.Layout.{slot_of, slot_says, ReadsSlot}
 use Rattle.table.specs.Form.{TellsLength, TellsOpening, TellsSlot, TellsForm}
-use Rattle.table.specs.Reply.{reply_says}
-use Rattle.table.specs.declared.reply.Reply.{Reply}
-use Rattle.table.specs.declared.reply.Reply.TheVariants.{Done, Value, Granted, Refused, RefusedWith}
 use Rattle.table.specs.declared.slot.Slot.{Slot}
 use Rattle.table.specs.declared.slot.Slot.TheVariants.{Free, Held}
-
--- a reply by what it says
-unfoldable reply_of : Said → Reply
-reply_of (done []) = Done
-reply_of (done (n ∷ [])) = Value n
-reply_of (done (n ∷ first ∷ more)) = Granted n first (get_or more 0 0)
-reply_of (refused number []) = Refused number
-reply_of (refused number (value ∷ more)) = RefusedWith number value
-
-reply_back : (r : Reply) → reply_of (reply_says r) ≡ r
-unfolding reply_of reply_says
-reply_back Done = refl
-reply_back (Value n) = refl
-reply_back (Granted number first last) = refl
-reply_back (Refused number) = refl
-reply_back (RefusedWith number value) = refl
-
-pub same_reply : {said : Said} (r r' : Reply) → reply_says r ≡ said → reply_says r' ≡ said → r ≡ r'
-same_reply r r' p q = same_answer reply_says reply_of reply_back r r' p q
 
 pub is_length_determined : (n : ℕ) (r r' : Bool) → TellsLength n r → TellsLength n r' → r ≡ r'
 is_length_determined n r r' p q = p.answer ∙ sym q.answer

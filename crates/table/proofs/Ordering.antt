@@ -20,7 +20,8 @@ use Rattle.table.specs.Layout.{Fits, table_of, bytes_of, count}
 use Rattle.table.specs.Form.{is_length, is_token, well_formed}
 use Rattle.table.specs.Fill.{filled, fill_says, Fills}
 use Rattle.table.specs.Call.{left_of}
-use Rattle.table.specs.declared.reply.Reply.{Reply}
+use Rattle.words.specs.declared.refusal.Refusal.{Refusal}
+use Rattle.std.specs.Prelude.{Result}
 use Rattle.table.specs.declared.slot.Slot.{Slot}
 use Rattle.table.specs.declared.slot.Slot.TheVariants.{Free, Held}
 use Rattle.table.proofs.Means.{Ordered, InOrder, bytes_formed, ordered}
@@ -112,7 +113,7 @@ module _ (says : Table → Said) (changed : Table → Table) (bytes : List ℕ) 
       go true well = told (says (table_of bytes)) refl well
       go false ill = inr (e ∙ left_refused says bytes changed (says_ill says bytes ill))
 
-pub fill_formed : {bytes : List ℕ} {r : Reply} {after : List ℕ} → Fills bytes r after → (well_formed after ≡ true) ⊎ (after ≡ bytes)
+pub fill_formed : {bytes : List ℕ} {r : Result (Unit {0}) Refusal} {after : List ℕ} → Fills bytes r after → (well_formed after ≡ true) ⊎ (after ≡ bytes)
 unfolding fill_says left
 fill_formed {bytes} {r} {after} f = go (is_length (length bytes)) refl f.table_after
   where

@@ -1,7 +1,6 @@
 pub mod Table
 pub mod Layout
 pub mod Form
-pub mod Reply
 pub mod Fill
 pub mod Call
 pub mod Day

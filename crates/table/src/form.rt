@@ -16,6 +16,7 @@ const LEAST: usize = WIDTH * 2;
 const MOST: usize = WIDTH * 1025;
 
 // 41 × (1 + n) bytes, n from 1 to 1,024.
+#[tactic(auto, unfolding(crate::specs::Form::is_length))]
 pub fn is_length(n: usize) -> bool
     ensures { TellsLength n result }
 {
@@ -56,6 +57,7 @@ fn is_blank_slot(slot: &[u8]) -> bool
 }
 
 // A claim in order, under a number that was given.
+#[tactic(auto, unfolding(crate::specs::Form::is_token))]
 fn is_token(number: u64, claim: Claim, limit: u16, next: u64) -> bool
     ensures { result ≡ is_token limit next number claim }
 {

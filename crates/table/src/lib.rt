@@ -2,13 +2,11 @@
 #![tactic(auto)]
 
 mod form;
-pub mod refusal;
-mod reply;
 mod slot;
 
 pub use form::{is_length, is_slot, opens, well_formed};
-pub use reply::Reply;
 pub use slot::{Slot, read_slot};
+pub use words::Refusal;
 
 // A slot takes so many bytes, and so does the header.
 pub const WIDTH: usize = 41;

@@ -13,6 +13,7 @@ pub enum Slot {
 }
 
 // A slot's first byte; 0 where it has none.
+#[tactic(auto, unfolding(crate::specs::Layout::kind_of))]
 pub(crate) fn kind_of(slot: &[u8]) -> u8
     ensures { result ≡ kind_of slot.now }
 {
@@ -22,6 +23,7 @@ pub(crate) fn kind_of(slot: &[u8]) -> u8
     slot[0]
 }
 
+#[tactic(auto, unfolding(crate::specs::Layout::claim_of))]
 pub(crate) fn read_claim(slot: &[u8]) -> Claim
     ensures { result ≡ claim_of slot.now }
 {

@@ -19,23 +19,6 @@ use Rattle.table.proofs.Cuts.{table_length, table_more}
 use Rattle.widest.specs.Widest.{last_byte, later, earlier, is_rival, beside, narrowed, widened, over}
 use Rattle.widest.specs.declared.range.Range.{Range}
 
--- the later and the earlier of two, by the test that the code makes
-pub later_so : (m n : ℕ) → m < n → n ≡ later m n
-unfolding later
-later_so m n h = rw (lt-ltb m n h) refl
-
-pub later_not : (m n : ℕ) → n ≤ m → m ≡ later m n
-unfolding later
-later_not m n h = rw (le-ltb m n h) refl
-
-pub earlier_so : (m n : ℕ) → n < m → n ≡ earlier m n
-unfolding earlier
-earlier_so m n h = rw (lt-ltb n m h) refl
-
-pub earlier_not : (m n : ℕ) → m ≤ n → m ≡ earlier m n
-unfolding earlier
-earlier_not m n h = rw (le-ltb n m h) refl
-
 -- one token
 module _ (asked held wide : Claim) where
   pub before_it : held.last < asked.first → {first : ℕ} → first ≡ later wide.first (held.last + 1) → with_range asked first wide.last ≡ beside asked wide held

@@ -11,64 +11,61 @@ pub struct Range {
     pub last: u64,
 }
 
-const LAST_BYTE: u64 = 18446744073709551615;
+impl Range {
+    pub const ALL: Range = Range {
+        first: 0,
+        last: u64::MAX,
+    };
+}
 
 // The same claim over another range.
 pub fn with_range(claim: Claim, range: Range) -> Claim
     ensures { Ranges claim range result }
 {
-    let file = claim.file;
     Claim {
-        types: claim.types,
-        host: claim.host,
-        file,
         first: range.first,
         last: range.last,
+        ..claim
     }
 }
 
 // A token that is in the way of the claim over all bytes.
+#[tactic(auto, unfolding(crate::specs::Widest::is_rival))]
 pub fn is_rival(held: Claim, claim: Claim) -> bool
     ensures { TellsRival held claim result }
 {
-    let all = Range {
-        first: 0,
-        last: LAST_BYTE,
-    };
-    conflict(held, with_range(claim, all)) != 0
+    conflict(held, with_range(claim, Range::ALL)) != 0
 }
 
+#[tactic(auto, unfolding(crate::specs::Widest::later))]
 fn later(a: u64, b: u64) -> u64
     ensures { result ≡ later a b }
 {
-    if a < b { b } else { a }
+    a.max(b)
 }
 
+#[tactic(auto, unfolding(crate::specs::Widest::earlier))]
 fn earlier(a: u64, b: u64) -> u64
     ensures { result ≡ earlier a b }
 {
-    if b < a { b } else { a }
+    a.min(b)
 }
 
-// A token's bytes leave the side on which the asked ones are, and all where they meet. What is left is made anew in
-// every arm: so it stays in registers.
+// A token's bytes leave the side on which the asked ones are, and all where they meet.
 pub fn beside(range: Range, held: Claim, asked: Claim) -> Range
     ensures { Leaves asked range held result }
 {
     if held.last < asked.first {
         return Range {
             first: later(range.first, held.last + 1),
-            last: range.last,
+            ..range
         };
     }
     if asked.last < held.first {
         return Range {
-            first: range.first,
             last: earlier(range.last, held.first - 1),
+            ..range
         };
     }
-    Range {
-        first: range.first,
-        last: range.last,
-    }
+    range
 }
