@@ -57,6 +57,19 @@ void *memcpy(void *restrict to, const void *restrict from, size_t length)
     return to;
 }
 
+void *memmove(void *to, const void *from, size_t length)
+{
+    uint8_t *target = to;
+    const uint8_t *source = from;
+    if (target <= source)
+        for (size_t i = 0; i < length; i++)
+            target[i] = source[i];
+    else
+        for (size_t i = length; i > 0; i--)
+            target[i - 1] = source[i - 1];
+    return to;
+}
+
 void *memset(void *to, int byte, size_t length)
 {
     uint8_t *target = to;

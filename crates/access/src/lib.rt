@@ -3,7 +3,6 @@
 
 mod judging;
 mod needs;
-pub mod refusal;
 
 pub use judging::judge;
 pub use needs::needed_rights;

@@ -1,9 +1,10 @@
 -- What a call is given by C: realms and file ids are bytes, and what is no 0 is a yes.
-use Rattle.std.specs.Prelude.{not, eqb, if◌then◌else◌}
+use Rattle.std.specs.Prelude.{◌≡◌, List, ℕ, not, eqb, if◌then◌else◌}
 use Rattle.words.specs.Number.{number_at}
 use Rattle.words.specs.Realm.{realm_at}
 use Rattle.evaluate.specs.declared.asking.Caller.{Caller as TheCaller}
 use Rattle.evaluate.specs.declared.asking.File.{File as TheFile}
+use Rattle.rights.specs.declared.access.Access.{Access}
 use Rattle.rights.specs.declared.guard.Guard.{Guard}
 use Rattle.rights.specs.declared.guard.Guard.TheVariants.{List as ByList, Mode}
 use Rattle.entry.specs.declared.entries.Entry.{Entry as TheEntry}
@@ -33,3 +34,11 @@ claim_of claim = record {
   first = claim.first;
   last = claim.last;
 }
+
+-- lending what a call is judged by: the list and the further groups, and the caller, the file and its guard as they are meant
+pub record Lends (list groups : List ℕ) (caller : Caller) (file : File) (r : Access) : Type 0 where
+  pub list_lent : r.list.now ≡ list
+  pub groups_lent : r.groups.now ≡ groups
+  pub caller_meant : r.caller ≡ caller_of caller
+  pub file_meant : r.file ≡ file_of file
+  pub guard_meant : r.guard ≡ guard_of file

@@ -1,9 +1,10 @@
 // What a call is given, as C has it: realms and file ids are bytes, and what is no 0 is a yes.
 ghost use Rattle.exchange.specs.Meaning.{Means};
-ghost use Rattle.exchange.specs.Given.{caller_of, file_of, guard_of, entry_of, claim_of};
+ghost use Rattle.exchange.specs.Given.{caller_of, file_of, guard_of, entry_of, claim_of, Lends};
 
-use rights::Guard;
-use words::{number32, number64, realm_at};
+use claims::FileId;
+use rights::{Access, Guard};
+use words::{number_at, realm_at};
 
 #[repr(C)]
 #[derive(Clone, Copy)]
@@ -44,64 +45,88 @@ pub struct Claim {
     pub last: u64,
 }
 
-pub fn caller_of(caller: Caller) -> evaluate::Caller
-    ensures { Means (caller_of caller) result }
-{
-    let realm = caller.realm;
-    evaluate::Caller {
-        realm: realm_at(&realm, 0),
-        user: caller.user,
-        group: caller.group,
+impl From<Caller> for evaluate::Caller {
+    ghost from_gives = { λ caller r. Means (caller_of caller) r };
+
+    fn from(caller: Caller) -> evaluate::Caller {
+        evaluate::Caller {
+            realm: realm_at(&caller.realm, 0),
+            user: caller.user,
+            group: caller.group,
+        }
     }
 }
 
-pub fn file_of(file: File) -> evaluate::File
-    ensures { Means (file_of file) result }
-{
-    evaluate::File {
-        owner: file.owner,
-        group: file.group,
-        dir: file.dir != 0,
+impl From<File> for evaluate::File {
+    ghost from_gives = { λ file r. Means (file_of file) r };
+
+    fn from(file: File) -> evaluate::File {
+        evaluate::File {
+            owner: file.owner,
+            group: file.group,
+            dir: file.dir != 0,
+        }
     }
 }
 
-pub fn guard_of(file: File) -> Guard
-    ensures { Means (guard_of file) result }
-{
-    if file.moded == 0 {
-        return Guard::List;
-    }
-    let realm = file.realm;
-    Guard::Mode {
-        realm: realm_at(&realm, 0),
-        mode: file.mode,
+impl From<File> for Guard {
+    ghost from_gives = { λ file r. Means (guard_of file) r };
+
+    fn from(file: File) -> Guard {
+        if file.moded == 0 {
+            return Guard::List;
+        }
+        Guard::Mode {
+            realm: realm_at(&file.realm, 0),
+            mode: file.mode,
+        }
     }
 }
 
-pub fn entry_of(entry: Entry) -> edit::Entry
-    ensures { Means (entry_of entry) result }
-{
-    let realm = entry.realm;
-    edit::Entry {
-        kind: entry.kind,
-        realm: realm_at(&realm, 0),
-        id: entry.id,
-        rights: entry.rights,
+impl From<Entry> for edit::Entry {
+    ghost from_gives = { λ entry r. Means (entry_of entry) r };
+
+    fn from(entry: Entry) -> edit::Entry {
+        edit::Entry {
+            kind: entry.kind,
+            realm: realm_at(&entry.realm, 0),
+            id: entry.id,
+            rights: entry.rights,
+        }
     }
 }
 
-pub fn claim_of(claim: Claim) -> claims::Claim
-    ensures { Means (claim_of claim) result }
+impl From<Claim> for claims::Claim {
+    ghost from_gives = { λ claim r. Means (claim_of claim) r };
+
+    fn from(claim: Claim) -> claims::Claim {
+        claims::Claim {
+            types: claim.types,
+            host: claim.host,
+            file: FileId {
+                hi: number_at(&claim.file, 0),
+                lo: number_at(&claim.file, 8),
+            },
+            first: claim.first,
+            last: claim.last,
+        }
+    }
+}
+
+// Who asks, for which file, and what guards it.
+pub fn access_of<'a>(
+    list: &'a [u8],
+    groups: &'a [u32],
+    caller: Caller,
+    file: File,
+) -> Access<'a>
+    ensures { Lends list.now groups.now caller file result }
 {
-    let file = claim.file;
-    claims::Claim {
-        types: claim.types,
-        host: claim.host,
-        file: claims::FileId {
-            hi: number64(&file, 0),
-            lo: number32(&file, 8),
-        },
-        first: claim.first,
-        last: claim.last,
+    Access {
+        list,
+        groups,
+        caller: caller.into(),
+        file: file.into(),
+        guard: file.into(),
     }
 }

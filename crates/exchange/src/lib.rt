@@ -5,4 +5,4 @@ mod answer;
 mod given;
 
 pub use answer::{Answer, Told};
-pub use given::{Caller, Claim, Entry, File, caller_of, claim_of, entry_of, file_of, guard_of};
+pub use given::{Caller, Claim, Entry, File, access_of};

@@ -1,16 +1,14 @@
 -- The words of demand 3: what a list that ask wrote names, what a table holds, what returns gave back.
-use Rattle.std.specs.Prelude.{◌≡◌, true, ◌≢◌, ℕ, zero, suc, ◌^◌, get_or, take, drop}
+use Rattle.std.specs.Prelude.{◌≡◌, true, ◌≢◌, ℕ, zero, suc, ◌^◌, get_or, take, drop, Ok}
 use mathlib.Core.List.{List, [], ◌∷◌, ◌++◌, map, Memᴰ}
 use Rattle.words.specs.Bit.{bit}
 use Rattle.words.specs.Number.{number_at}
 use Rattle.claims.specs.declared.claim.Claim.{Claim}
 use Rattle.table.specs.Table.{Table}
-use Rattle.table.specs.declared.reply.Reply.{Reply}
-use Rattle.table.specs.declared.reply.Reply.TheVariants.{Done}
 use Rattle.table.specs.declared.slot.Slot.{Slot}
 use Rattle.table.specs.declared.slot.Slot.TheVariants.{Free, Held}
 use Rattle.returns.specs.Return.{Returns}
-use Rattle.histories.specs.History.{Return, RunsBy}
+use Rattle.histories.specs.History.{Return, Done, RunsBy}
 
 -- the slot at a place, free past the last
 abbrev pub slot_at : Table → ℕ → Slot
@@ -55,7 +53,7 @@ pub record Listed (list : List Entry) (x : Item) : Type 0 where
 -- a return call and its answer
 pub record Turn : Type 0 where
   pub given : Return
-  pub reply : Reply
+  pub reply : Done
 
 -- the returns themselves
 abbrev pub givens : List Turn → List Return
@@ -79,7 +77,7 @@ pub record Names (given : Return) (x : Item) : Type 0 where
 pub record GivenBack (turns : List Turn) (x : Item) : Type 0 where
   pub turn : Turn
   pub member : Memᴰ turn turns
-  pub done : turn.reply ≡ Done
+  pub done : turn.reply ≡ Ok tt
   pub names : Names turn.given x
 
 -- the return of all that an entry names

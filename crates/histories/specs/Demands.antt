@@ -1,41 +1,35 @@
 -- The customer's demands: of every call, and of every table that calls reach.
-use Rattle.std.specs.Prelude.{◌≡◌, Bool, true, false, ◌≢◌, ◌↔◌, ℕ, ◌*◌, ◌≤◌, ◌<◌, length}
+use Rattle.std.specs.Prelude.{◌≡◌, Bool, true, false, ◌≢◌, ◌↔◌, ℕ, ◌*◌, ◌≤◌, ◌<◌, length, Result, Ok}
 use mathlib.Core.List.{List, [], map, Memᴰ}
 use Rattle.std.specs.Borrow.{Bor}
 use Rattle.words.specs.Test.{any_of}
 use Rattle.words.specs.Said.{Said, done, refused, is_done}
-use Rattle.records.specs.Reading.{read_says, ReadsRecord}
-use Rattle.records.specs.declared.records.Read.{Read}
-use Rattle.list.specs.Walking.{step_says, Steps}
-use Rattle.list.specs.declared.walk.Step.{Step}
+use Rattle.words.specs.Refusal.{plain_says, number_says}
+use Rattle.words.specs.declared.refusal.Refusal.{Refusal}
+use Rattle.records.specs.Reading.{Read, read_says, ReadsRecord}
+use Rattle.list.specs.Walking.{Step, step_says, Steps}
 use Rattle.list.specs.declared.walk.Walk.{Walk}
-use Rattle.evaluate.specs.Evaluation.{evaluated_as, verdict_says, Checks, Evaluates}
+use Rattle.evaluate.specs.Evaluation.{evaluated_as, Checks, Evaluates}
 use Rattle.evaluate.specs.declared.asking.Caller.{Caller}
 use Rattle.evaluate.specs.declared.asking.File.{File}
-use Rattle.evaluate.specs.declared.evaluation.Evaluated.{Evaluated}
-use Rattle.evaluate.specs.declared.verdict.Verdict.{Verdict}
-use Rattle.rights.specs.Deciding.{decided, answer_says, Finds, Decides}
-use Rattle.rights.specs.declared.answer.Found.{Found}
+use Rattle.evaluate.specs.declared.evaluation.Found.{Found}
+use Rattle.rights.specs.Deciding.{decided, decision_says, Finds, Decides}
 use Rattle.rights.specs.declared.decision.Decision.{Decision}
 use Rattle.rights.specs.declared.guard.Guard.{Guard}
 use Rattle.entry.specs.Plan.{plan_says, PlansPut, PlansDrop}
 use Rattle.entry.specs.declared.entries.Entry.{Entry as TheEntry}
 use Rattle.entry.specs.declared.planning.Plan.{Plan}
-use Rattle.edit.specs.Editing.{edited_says, Puts, Drops as DropsEntry}
-use Rattle.edit.specs.declared.editing.Edited.{Edited}
+use Rattle.edit.specs.Editing.{Puts, Drops as DropsEntry}
 use Rattle.claims.specs.Claim.{malformed}
 use Rattle.claims.specs.Rule.{Conflicting}
 use Rattle.claims.specs.declared.claim.Claim.{Claim}
 use Rattle.table.specs.Table.{limit}
 use Rattle.table.specs.Layout.{table_of}
 use Rattle.table.specs.Form.{well_formed}
-use Rattle.table.specs.Reply.{reply_says}
 use Rattle.table.specs.Fill.{Fills}
-use Rattle.table.specs.declared.reply.Reply.{Reply}
-use Rattle.table.specs.declared.reply.Reply.TheVariants.{Done, Value}
 use Rattle.table.specs.declared.slot.Slot.TheVariants.{Held}
 use Rattle.tokens.specs.Grant.{room_says, Grants as GrantsUnjudged}
-use Rattle.tokens.specs.Widest.{GrantsWidest as GrantsWidestUnjudged}
+use Rattle.tokens.specs.Widest.{widest_says, GrantsWidest as GrantsWidestUnjudged}
 use Rattle.tokens.specs.Ask.{Asks as AsksUnjudged}
 use Rattle.returns.specs.Return.{Returns}
 use Rattle.returns.specs.DropHost.{Drops}
@@ -46,7 +40,7 @@ use Rattle.desk.specs.Widest.{GrantsWidest}
 use Rattle.desk.specs.Ask.{Asks}
 use Rattle.exchange.specs.Answer.{truth_says}
 use Rattle.histories.specs.Shape.{Shape, is_answer, is_answer_or_end, of_read, of_step, of_check, of_evaluate, of_rights, of_judge, of_plan_put, of_plan_drop, of_put, of_drop, of_fill, of_ask, of_ask_unjudged, of_grant, of_grant_unjudged, of_grant_widest, of_grant_widest_unjudged, of_return, of_drop_host, of_audit}
-use Rattle.histories.specs.History.{Call, is_fill, Runs, Reached, Resumed, Gives}
+use Rattle.histories.specs.History.{Call, Done, Counted, Ranged, is_fill, Runs, Reached, Resumed, Gives}
 use Rattle.histories.specs.Callback.{slot_at, Item, Holds, Entry, entries_in, Listed, Turn, givens, Returned, GivenBack, return_of, Reordered, Split, return_one, Singly}
 
 -- "every call ends with an answer or a numbered refusal of 01's table, and a refusal leaves every lent byte as it was": of a call that is lent
@@ -57,30 +51,30 @@ pub record Ends (s : Shape) (said : Said) (before after : List ℕ) : Type 0 whe
 
 -- demand 1, of every call by its own statement; those that are lent bytes only to read can change none
 pub record Demand1 : Type 0 where
-  pub check : (list : List ℕ) (r : Verdict) → Checks list r → is_answer of_check (verdict_says r) ≡ true
+  pub check : (list : List ℕ) (r : Done) → Checks list r → is_answer of_check (plain_says r) ≡ true
   pub read_record : (tail : List ℕ) (r : Read) → ReadsRecord tail r → is_answer_or_end of_read (read_says r) ≡ true
   pub step : (walk : Walk) (list : List ℕ) (r : Step) → Steps walk list r → is_answer_or_end of_step (step_says r) ≡ true
-  pub evaluate : (list groups : List ℕ) (caller : Caller) (file : File) (r : Evaluated) → Evaluates list groups caller file r → is_answer of_evaluate (evaluated_as r).says ≡ true
-  pub decide : (list groups : List ℕ) (caller : Caller) (file : File) (guard : Guard) (r : Found) → Finds (decided list groups caller file guard) r
-      → is_answer of_rights (answer_says r.answer) ≡ true
-  pub rights : (list : Bor (List ℕ)) (groups : List ℕ) (caller : Caller) (file : File) (guard : Guard) (r : Decision) → Decides (decided list.now groups caller file guard) list r
-      → is_answer of_rights (answer_says r.answer) ≡ true
-  pub judge : (access : Access) (types : ℕ) (r : Reply) → Judges access types r → is_answer of_judge (reply_says r) ≡ true
-  pub plan_put : (list : List ℕ) (entry : TheEntry) (r : Plan) → PlansPut list entry r → is_answer of_plan_put (plan_says r) ≡ true
-  pub plan_drop : (list : List ℕ) (entry : TheEntry) (r : Plan) → PlansDrop list entry r → is_answer of_plan_drop (plan_says r) ≡ true
+  pub evaluate : (list groups : List ℕ) (caller : Caller) (file : File) (r : Result Found Refusal) → Evaluates list groups caller file r → is_answer of_evaluate (evaluated_as r).says ≡ true
+  pub decide : (list groups : List ℕ) (caller : Caller) (file : File) (guard : Guard) (r : Result Found Refusal) → Finds (decided list groups caller file guard) r
+      → is_answer of_rights (evaluated_as r).says ≡ true
+  pub rights : (list : Bor (List ℕ)) (groups : List ℕ) (caller : Caller) (file : File) (guard : Guard) (r : Result Decision Refusal) → Decides (decided list.now groups caller file guard) list r
+      → is_answer of_rights (decision_says r) ≡ true
+  pub judge : (access : Access) (types : ℕ) (r : Done) → Judges access types r → is_answer of_judge (plain_says r) ≡ true
+  pub plan_put : (list : List ℕ) (entry : TheEntry) (r : Result Plan Refusal) → PlansPut list entry r → is_answer of_plan_put (plan_says r) ≡ true
+  pub plan_drop : (list : List ℕ) (entry : TheEntry) (r : Result Plan Refusal) → PlansDrop list entry r → is_answer of_plan_drop (plan_says r) ≡ true
   pub audit : (bytes : List ℕ) (r : Bool) → Audits bytes r → is_answer of_audit (truth_says r) ≡ true
-  pub put : (list out after : List ℕ) (entry : TheEntry) (r : Edited) → Puts list entry out r after → Ends of_put (edited_says r) out after
-  pub drop_entry : (list out after : List ℕ) (entry : TheEntry) (r : Edited) → DropsEntry list entry out r after → Ends of_drop (edited_says r) out after
-  pub fill : (bytes after : List ℕ) (r : Reply) → Fills bytes r after → Ends of_fill (reply_says r) bytes after
-  pub ask : (bytes out after : List ℕ) (claim : Claim) (access : Access) (r : Reply) → Asks bytes claim access out r after → Ends of_ask (reply_says r) out after
-  pub ask_unjudged : (bytes out after : List ℕ) (claim : Claim) (r : Reply) → AsksUnjudged bytes claim out r after → Ends of_ask_unjudged (reply_says r) out after
-  pub grant : (bytes after : List ℕ) (claim : Claim) (access : Access) (r : Reply) → Grants bytes claim access r after → Ends of_grant (reply_says r) bytes after
-  pub grant_unjudged : (bytes after : List ℕ) (claim : Claim) (r : Reply) → GrantsUnjudged bytes claim r after → Ends of_grant_unjudged (reply_says r) bytes after
-  pub grant_widest : (bytes after : List ℕ) (claim : Claim) (access : Access) (r : Reply) → GrantsWidest bytes claim access r after → Ends of_grant_widest (reply_says r) bytes after
-  pub grant_widest_unjudged : (bytes after : List ℕ) (claim : Claim) (r : Reply) → GrantsWidestUnjudged bytes claim r after
-      → Ends of_grant_widest_unjudged (reply_says r) bytes after
-  pub give_back : (bytes after : List ℕ) (host number types : ℕ) (r : Reply) → Returns bytes host number types r after → Ends of_return (reply_says r) bytes after
-  pub drop_host : (bytes after : List ℕ) (host : ℕ) (r : Reply) → Drops bytes host r after → Ends of_drop_host (reply_says r) bytes after
+  pub put : (list out after : List ℕ) (entry : TheEntry) (r : Counted) → Puts list entry out r after → Ends of_put (number_says r) out after
+  pub drop_entry : (list out after : List ℕ) (entry : TheEntry) (r : Counted) → DropsEntry list entry out r after → Ends of_drop (number_says r) out after
+  pub fill : (bytes after : List ℕ) (r : Done) → Fills bytes r after → Ends of_fill (plain_says r) bytes after
+  pub ask : (bytes out after : List ℕ) (claim : Claim) (access : Access) (r : Counted) → Asks bytes claim access out r after → Ends of_ask (number_says r) out after
+  pub ask_unjudged : (bytes out after : List ℕ) (claim : Claim) (r : Counted) → AsksUnjudged bytes claim out r after → Ends of_ask_unjudged (number_says r) out after
+  pub grant : (bytes after : List ℕ) (claim : Claim) (access : Access) (r : Counted) → Grants bytes claim access r after → Ends of_grant (number_says r) bytes after
+  pub grant_unjudged : (bytes after : List ℕ) (claim : Claim) (r : Counted) → GrantsUnjudged bytes claim r after → Ends of_grant_unjudged (number_says r) bytes after
+  pub grant_widest : (bytes after : List ℕ) (claim : Claim) (access : Access) (r : Ranged) → GrantsWidest bytes claim access r after → Ends of_grant_widest (widest_says r) bytes after
+  pub grant_widest_unjudged : (bytes after : List ℕ) (claim : Claim) (r : Ranged) → GrantsWidestUnjudged bytes claim r after
+      → Ends of_grant_widest_unjudged (widest_says r) bytes after
+  pub give_back : (bytes after : List ℕ) (host number types : ℕ) (r : Done) → Returns bytes host number types r after → Ends of_return (plain_says r) bytes after
+  pub drop_host : (bytes after : List ℕ) (host : ℕ) (r : Counted) → Drops bytes host r after → Ends of_drop_host (number_says r) bytes after
 
 -- "from a freshly filled table, after any calls, no two hosts hold conflicting tokens"
 pub record NoTwoConflict (bytes : List ℕ) : Type 0 where
@@ -95,10 +89,10 @@ pub record Again (bytes : List ℕ) (claim : Claim) (turns : List Turn) (present
   pub returned : Returned turns bytes present
   pub access : Access
   pub permitted : access_says access claim.types ≡ done []
-  pub reply : Reply
+  pub reply : Counted
   pub after : List ℕ
   pub grant : Grants present claim access reply after
-  pub says : said ≡ reply_says reply
+  pub says : said ≡ number_says reply
 
 -- granted under its number, or refused only for room (33) or spent numbers (34), and that only where they are wanting
 abbrev pub Served : List ℕ → Said → Type 0
@@ -106,7 +100,7 @@ Served present said = said ≡ room_says (table_of present)
 
 -- none of the returns was refused, and the request is served
 abbrev pub AllDone : List Turn → List ℕ → Said → Type 0
-AllDone turns present said = ((turn : Turn) → Memᴰ turn turns → turn.reply ≡ Done) × Served present said
+AllDone turns present said = ((turn : Turn) → Memᴰ turn turns → turn.reply ≡ Ok tt) × Served present said
 
 -- a listed type of a listed token is still held
 pub record StillHeld (list : List Entry) (present : List ℕ) : Type 0 where
@@ -142,7 +136,7 @@ Demand2 = Demand2Of Reached
 -- demand 3, of every table that calls reach and every ask that is done there: its list is read off the bytes that it wrote
 abbrev pub Demand3Of : (List ℕ → Type 0) → Type 0
 Demand3Of reached = (bytes : List ℕ) → reached bytes
-    → (claim : Claim) (access : Access) (out : List ℕ) (count : ℕ) (after : List ℕ) → Asks bytes claim access out (Value count) after
+    → (claim : Claim) (access : Access) (out : List ℕ) (count : ℕ) (after : List ℕ) → Asks bytes claim access out (Ok count) after
     → (turns : List Turn) (present : List ℕ) (said : Said) → Again bytes claim turns present said
     → LeastThatServes (entries_in count after) turns present said
 
@@ -154,7 +148,7 @@ Demand3 = Demand3Of Reached
 abbrev pub AskIsDone : Type 0
 AskIsDone = (bytes : List ℕ) → well_formed bytes ≡ true → (claim : Claim) → malformed claim (limit (table_of bytes)) ≡ false
     → (access : Access) → access_says access claim.types ≡ done [] → (out : List ℕ) → 13 * length (table_of bytes).slots ≤ length out
-    → (r : Reply) (after : List ℕ) → Asks bytes claim access out r after → (count : ℕ) × (r ≡ Value count)
+    → (r : Counted) (after : List ℕ) → Asks bytes claim access out r after → (count : ℕ) × (r ≡ Ok count)
 
 -- numbers are given once: of two grants in a history with no fill between them, whatever was returned or dropped between, the later number is
 -- the greater

@@ -1,15 +1,13 @@
 -- The same of the calls for C: a history of exports, each as its own statement says, and the demands read off the bytes and the answers that C has.
-use Rattle.std.specs.Prelude.{◌≡◌, true, false, not, List, [], map, ◌⊎◌, ◌≢◌, ℕ, ◌*◌, ◌^◌, ◌≤◌, ◌<◌, eqb, length, if◌then◌else◌}
+use Rattle.std.specs.Prelude.{◌≡◌, true, false, not, List, [], ◌∷◌, map, ◌⊎◌, ◌≢◌, ℕ, ◌*◌, ◌^◌, ◌≤◌, ◌<◌, eqb, length, take, if◌then◌else◌, Ok, Err}
 use Rattle.words.specs.Test.{any_of}
-use Rattle.words.specs.Said.{Said, done}
+use Rattle.words.specs.Said.{Said, done, refused}
+use Rattle.words.specs.Refusal.{refusal_of}
 use Rattle.words.specs.Number.{Bytes}
 use Rattle.claims.specs.Claim.{malformed}
 use Rattle.table.specs.Table.{limit}
 use Rattle.table.specs.Layout.{table_of}
 use Rattle.table.specs.Form.{well_formed}
-use Rattle.table.specs.Reply.{reply_says}
-use Rattle.table.specs.declared.reply.Reply.{Reply}
-use Rattle.table.specs.declared.reply.Reply.TheVariants.{Done, Value, Granted, Refused, RefusedWith}
 use Rattle.access.specs.Access.{Access, access_says}
 use Rattle.exchange.specs.Answer.{answer_for}
 use Rattle.exchange.specs.Given.{claim_of}
@@ -22,21 +20,21 @@ use Rattle.mastarik.specs.Lists.{Checks, decided_for, GivesRights, Puts, Drops}
 use Rattle.mastarik.specs.Tables.{Fills, Asks, Grants, GrantsWidest, Returns, DropsHost, Audits}
 use Rattle.mastarik.specs.Types.{TellsNeeds}
 use Rattle.histories.specs.Shape.{Shape, is_answer, of_check, of_rights, of_put, of_drop, of_fill, of_ask, of_grant, of_grant_widest, of_return, of_drop_host, of_audit, of_needs}
-use Rattle.histories.specs.History.{Return, Call, to_fill, to_ask, to_grant, to_grant_widest, to_return, to_drop_host, to_audit, is_fill, RunsBy, Reached, Resumed}
+use Rattle.histories.specs.History.{Return, Call, Done, to_fill, to_ask, to_grant, to_grant_widest, to_return, to_drop_host, to_audit, is_fill, RunsBy, Reached, Resumed}
 use Rattle.histories.specs.Callback.{entries_in, Turn}
 use Rattle.histories.specs.Demands.{NoTwoConflict, LeastThatServes}
 use Rattle.histories.specs.Widening.{Wider}
 
--- the way back from an answer to the call's reply, by what that call can answer
-unfoldable pub reply_by : Shape → Answer → Reply
-reply_by s a =
-    if not (eqb a.refused 0) then (if any_of (eqb a.refused) s.valued then RefusedWith a.refused a.detail else Refused a.refused) else
-    if eqb s.values 0 then Done else
-    if eqb s.values 1 then Value a.value else
-    Granted a.value a.first a.last
+-- the way back from an answer to what the call said, by what that call can answer
+unfoldable pub said_by : Shape → Answer → Said
+said_by s a =
+    if eqb a.refused 0 then done (take s.values (a.value ∷ a.first ∷ a.last ∷ [])) else
+    if any_of (eqb a.refused) s.valued then refused a.refused (a.detail ∷ []) else
+    refused a.refused []
 
-abbrev pub said_by : Shape → Answer → Said
-said_by s a = reply_says (reply_by s a)
+-- and to what it answered, where that is nothing more
+unfoldable pub done_by : Answer → Done
+done_by a = if eqb a.refused 0 then Ok tt else Err (refusal_of a.refused a.detail)
 
 -- what a claim's fields hold by their types: two bytes, eight bytes, and twelve for the file
 pub record Typed (claim : Claim) : Type 0 where
@@ -153,7 +151,7 @@ abbrev pub ReturnedInC : List TurnInC → List ℕ → List ℕ → Type 0
 ReturnedInC = RunsBy TurnLeavesInC
 
 abbrev pub turn_of : TurnInC → Turn
-turn_of turn = record { given = turn.given; reply = reply_by of_return turn.answer }
+turn_of turn = record { given = turn.given; reply = done_by turn.answer }
 
 -- the request made again, after returns and no other call between, by an access that permits it
 pub record AgainInC (bytes : List ℕ) (claim : Claim) (turns : List TurnInC) (present : List ℕ) (a : Answer) : Type 0 where

@@ -1,13 +1,13 @@
 -- A history: any calls on one lent table, one after the other, each as its own statement says.
-use Rattle.std.specs.Prelude.{◌≡◌, Bool, true, false, List, [], ◌∷◌, ℕ}
+use Rattle.std.specs.Prelude.{◌≡◌, Bool, true, false, List, [], ◌∷◌, ℕ, Result, Ok}
 use Rattle.words.specs.Number.{Bytes}
+use Rattle.words.specs.declared.refusal.Refusal.{Refusal}
 use Rattle.claims.specs.declared.claim.Claim.{Claim}
 use Rattle.table.specs.Layout.{Fits}
 use Rattle.table.specs.Fill.{Fills}
-use Rattle.table.specs.declared.reply.Reply.{Reply}
-use Rattle.table.specs.declared.reply.Reply.TheVariants.{Done, Value, Granted}
 use Rattle.tokens.specs.Grant.{Grants as GrantsUnjudged}
 use Rattle.tokens.specs.Widest.{GrantsWidest as GrantsWidestUnjudged}
+use Rattle.tokens.specs.declared.granting.Granted.{Granted}
 use Rattle.tokens.specs.Ask.{Asks as AsksUnjudged}
 use Rattle.returns.specs.Return.{Returns}
 use Rattle.returns.specs.DropHost.{Drops}
@@ -48,17 +48,30 @@ is_fill (to_return given) = false
 is_fill (to_drop_host host) = false
 is_fill to_audit = false
 
+-- what a call answers: nothing more, a number or a count, a number and a range
+abbrev pub Done : Type 0
+Done = Result (Unit {0}) Refusal
+
+abbrev pub Counted : Type 0
+Counted = Result ℕ Refusal
+
+abbrev pub Ranged : Type 0
+Ranged = Result Granted Refusal
+
+abbrev pub granted : ℕ → ℕ → ℕ → Granted
+granted number first last = record { number = number; first = first; last = last }
+
 -- the table's bytes before and after a call, whatever it answers; ask and audit are lent them to read, so they stay
 unfoldable pub Leaves : Call → List ℕ → List ℕ → Type 0
-Leaves to_fill before after = (r : Reply) × Fills before r after
-Leaves (to_ask claim access out) before after = (after ≡ before) × (r : Reply) × (written : List ℕ) × Asks before claim access out r written
-Leaves (to_ask_unjudged claim out) before after = (after ≡ before) × (r : Reply) × (written : List ℕ) × AsksUnjudged before claim out r written
-Leaves (to_grant claim access) before after = Fits claim × (r : Reply) × Grants before claim access r after
-Leaves (to_grant_unjudged claim) before after = Fits claim × (r : Reply) × GrantsUnjudged before claim r after
-Leaves (to_grant_widest claim access) before after = Fits claim × (r : Reply) × GrantsWidest before claim access r after
-Leaves (to_grant_widest_unjudged claim) before after = Fits claim × (r : Reply) × GrantsWidestUnjudged before claim r after
-Leaves (to_return given) before after = (r : Reply) × Returns before given.host given.number given.types r after
-Leaves (to_drop_host host) before after = (r : Reply) × Drops before host r after
+Leaves to_fill before after = (r : Done) × Fills before r after
+Leaves (to_ask claim access out) before after = (after ≡ before) × (r : Counted) × (written : List ℕ) × Asks before claim access out r written
+Leaves (to_ask_unjudged claim out) before after = (after ≡ before) × (r : Counted) × (written : List ℕ) × AsksUnjudged before claim out r written
+Leaves (to_grant claim access) before after = Fits claim × (r : Counted) × Grants before claim access r after
+Leaves (to_grant_unjudged claim) before after = Fits claim × (r : Counted) × GrantsUnjudged before claim r after
+Leaves (to_grant_widest claim access) before after = Fits claim × (r : Ranged) × GrantsWidest before claim access r after
+Leaves (to_grant_widest_unjudged claim) before after = Fits claim × (r : Ranged) × GrantsWidestUnjudged before claim r after
+Leaves (to_return given) before after = (r : Done) × Returns before given.host given.number given.types r after
+Leaves (to_drop_host host) before after = (r : Counted) × Drops before host r after
 Leaves to_audit before after = (after ≡ before) × (r : Bool) × Audits before r
 
 -- calls one after the other, of whatever kind
@@ -75,7 +88,7 @@ Runs = RunsBy Leaves
 pub record Reached (bytes : List ℕ) : Type 0 where
   pub lent : List ℕ
   pub fresh : List ℕ
-  pub fill : Fills lent Done fresh
+  pub fill : Fills lent (Ok tt) fresh
   pub calls : List Call
   pub runs : Runs calls fresh bytes
 
@@ -89,7 +102,7 @@ pub record Resumed (bytes : List ℕ) : Type 0 where
 
 -- a grant that is done, and the number that it gives
 pub data Gives (before : List ℕ) (number : ℕ) (after : List ℕ) : Type 0 where
-  judged : (claim : Claim) (access : Access) → Fits claim → Grants before claim access (Value number) after → Gives before number after
-  unjudged : (claim : Claim) → Fits claim → GrantsUnjudged before claim (Value number) after → Gives before number after
-  widest : (claim : Claim) (access : Access) (first last : ℕ) → Fits claim → GrantsWidest before claim access (Granted number first last) after → Gives before number after
-  widest_unjudged : (claim : Claim) (first last : ℕ) → Fits claim → GrantsWidestUnjudged before claim (Granted number first last) after → Gives before number after
+  judged : (claim : Claim) (access : Access) → Fits claim → Grants before claim access (Ok number) after → Gives before number after
+  unjudged : (claim : Claim) → Fits claim → GrantsUnjudged before claim (Ok number) after → Gives before number after
+  widest : (claim : Claim) (access : Access) (first last : ℕ) → Fits claim → GrantsWidest before claim access (Ok (granted number first last)) after → Gives before number after
+  widest_unjudged : (claim : Claim) (first last : ℕ) → Fits claim → GrantsWidestUnjudged before claim (Ok (granted number first last)) after → Gives before number after

@@ -1,14 +1,12 @@
 // The calls on a token table.
 ghost use Rattle.mastarik.specs.Tables.{access_for, Fills, Asks, Grants, GrantsWidest, Returns, DropsHost, Audits};
 
-use exchange::{
-    Answer, Caller, Claim, File, caller_of, claim_of, file_of, guard_of, of_reply, of_truth,
-};
+use exchange::{Answer, Caller, Claim, File, Told, access_of};
 
 pub fn mastarik_fill(table: &mut [u8]) -> Answer
     ensures { Fills table.old result table.new }
 {
-    of_reply(desk::fill(table))
+    desk::fill(table).told()
 }
 
 pub fn mastarik_ask(
@@ -22,11 +20,8 @@ pub fn mastarik_ask(
 ) -> Answer
     ensures { Asks table.now claim (access_for list.now groups.now caller file) out.old result out.new }
 {
-    let asked = claim_of(claim);
-    let who = caller_of(caller);
-    let what = file_of(file);
-    let guard = guard_of(file);
-    of_reply(desk::ask(table, asked, list, groups, who, what, guard, out))
+    let access = access_of(list, groups, caller, file);
+    desk::ask(table, claim.into(), access, out).told()
 }
 
 pub fn mastarik_grant(
@@ -39,11 +34,8 @@ pub fn mastarik_grant(
 ) -> Answer
     ensures { Grants table.old claim (access_for list.now groups.now caller file) result table.new }
 {
-    let asked = claim_of(claim);
-    let who = caller_of(caller);
-    let what = file_of(file);
-    let guard = guard_of(file);
-    of_reply(desk::grant(table, asked, list, groups, who, what, guard))
+    let access = access_of(list, groups, caller, file);
+    desk::grant(table, claim.into(), access).told()
 }
 
 pub fn mastarik_grant_widest(
@@ -56,27 +48,24 @@ pub fn mastarik_grant_widest(
 ) -> Answer
     ensures { GrantsWidest table.old claim (access_for list.now groups.now caller file) result table.new }
 {
-    let asked = claim_of(claim);
-    let who = caller_of(caller);
-    let what = file_of(file);
-    let guard = guard_of(file);
-    of_reply(desk::grant_widest(table, asked, list, groups, who, what, guard))
+    let access = access_of(list, groups, caller, file);
+    desk::grant_widest(table, claim.into(), access).told()
 }
 
 pub fn mastarik_return(table: &mut [u8], host: u16, number: u64, types: u16) -> Answer
     ensures { Returns table.old host number types result table.new }
 {
-    of_reply(desk::give_back(table, host, number, types))
+    desk::give_back(table, host, number, types).told()
 }
 
 pub fn mastarik_drop_host(table: &mut [u8], host: u16) -> Answer
     ensures { DropsHost table.old host result table.new }
 {
-    of_reply(desk::drop_host(table, host))
+    desk::drop_host(table, host).told()
 }
 
 pub fn mastarik_audit(table: &[u8]) -> Answer
     ensures { Audits table.now result }
 {
-    of_truth(desk::audit(table))
+    desk::audit(table).told()
 }

@@ -2,10 +2,10 @@
 ghost use Rattle.mastarik.specs.Types.{TellsNeeds};
 
 use access::needed_rights;
-use exchange::{Answer, of_value};
+use exchange::{Answer, Told};
 
 pub fn mastarik_needs(types: u16, dir: u8) -> Answer
     ensures { TellsNeeds types dir result }
 {
-    of_value(needed_rights(types, dir != 0) as u64)
+    u64::from(needed_rights(types, dir != 0)).told()
 }

@@ -1,53 +1,17 @@
 -- A refusal is known by its number and its value, so what a call says leaves no choice of its answer. Assumes nothing.
-use Rattle.std.specs.Prelude.{if◌then◌else◌}
 use mathlib.Core.Path.{◌≡◌, refl, ap}
 use mathlib.Core.List.{List, [], ◌∷◌}
 use Prim.Native.Nat.{ℕ}
-use lib.Dec.{eqb, ltb}
 use lib.ListN.{get_or}
 use Rattle.std.specs.Prelude.{Option, None, Some, Result, Ok, Err, unwrap_or}
 use Rattle.words.specs.Said.{Said, done, refused}
-use Rattle.words.specs.Refusal.{number_of, refusal_number, refusal_value, values_in, refusal_says, says_by, plain_says, number_says}
-use Rattle.words.specs.declared.refusal.Fault.{Fault}
+use Rattle.words.specs.Refusal.{fault_of, refusal_of, number_of, refusal_number, refusal_value, values_in, refusal_says, says_by, plain_says, number_says}
 use Rattle.words.specs.declared.refusal.Fault.TheVariants.{TooLong, NoDefaultRealm, UnknownKind, CutShort, RightsAbove63, OutOfOrder, ForbiddenRealm, ObjectMissing, MaskMissing, ControlMissing}
 use Rattle.words.specs.declared.refusal.Refusal.{Refusal}
 use Rattle.words.specs.declared.refusal.Refusal.TheVariants.{Faulty, NothingToDrop, OutputTooShort, ModeAbove511, TooManyGroups, RightMissing, NotWellFormed, Malformed, Conflict, NoFreeSlot, NumbersSpent, ListTooShort, NoSuchToken, TypeLacking, NoSuchPart}
 use Rattle.words.proofs.Determined.{same_answer}
 
--- the fault of a number
-unfoldable fault_of : ℕ → Fault
-fault_of n =
-    if eqb n 10 then TooLong else
-    if eqb n 11 then NoDefaultRealm else
-    if eqb n 12 then UnknownKind else
-    if eqb n 13 then CutShort else
-    if eqb n 14 then RightsAbove63 else
-    if eqb n 15 then OutOfOrder else
-    if eqb n 16 then ForbiddenRealm else
-    if eqb n 17 then ObjectMissing else
-    if eqb n 18 then MaskMissing else
-    ControlMissing
-
--- the refusal of a number and its value
-unfoldable refusal_of : ℕ → ℕ → Refusal
-refusal_of n value =
-    if ltb n 20 then Faulty (fault_of n) value else
-    if eqb n 20 then NothingToDrop else
-    if eqb n 21 then OutputTooShort else
-    if eqb n 22 then ModeAbove511 else
-    if eqb n 23 then TooManyGroups else
-    if eqb n 24 then RightMissing else
-    if eqb n 30 then NotWellFormed else
-    if eqb n 31 then Malformed else
-    if eqb n 32 then Conflict else
-    if eqb n 33 then NoFreeSlot else
-    if eqb n 34 then NumbersSpent else
-    if eqb n 35 then ListTooShort value else
-    if eqb n 36 then NoSuchToken else
-    if eqb n 37 then TypeLacking else
-    NoSuchPart
-
-refusal_back : (r : Refusal) → refusal_of (refusal_number r) (get_or (values_in (refusal_value r)) 0 0) ≡ r
+pub refusal_back : (r : Refusal) → refusal_of (refusal_number r) (get_or (values_in (refusal_value r)) 0 0) ≡ r
 unfolding refusal_of fault_of refusal_number number_of refusal_value values_in
 refusal_back (Faulty TooLong place) = refl
 refusal_back (Faulty NoDefaultRealm place) = refl

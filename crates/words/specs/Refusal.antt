@@ -1,5 +1,5 @@
 -- 01's table of refusals.
-use Rattle.std.specs.Prelude.{◌≡◌, List, [], ◌∷◌, ℕ, Option, None, Some, Result, Ok, Err}
+use Rattle.std.specs.Prelude.{◌≡◌, List, [], ◌∷◌, ℕ, eqb, ltb, if◌then◌else◌, Option, None, Some, Result, Ok, Err}
 use Rattle.words.specs.Said.{Said, done, refused}
 use Rattle.words.specs.declared.refusal.Fault.{Fault}
 use Rattle.words.specs.declared.refusal.Fault.TheVariants.{TooLong, NoDefaultRealm, UnknownKind, CutShort, RightsAbove63, OutOfOrder, ForbiddenRealm, ObjectMissing, MaskMissing, ControlMissing}
@@ -61,6 +61,39 @@ values_in (Some value) = value ∷ []
 
 unfoldable pub refusal_says : Refusal → Said
 refusal_says refusal = refused (refusal_number refusal) (values_in (refusal_value refusal))
+
+-- the fault of a number
+unfoldable pub fault_of : ℕ → Fault
+fault_of n =
+    if eqb n 10 then TooLong else
+    if eqb n 11 then NoDefaultRealm else
+    if eqb n 12 then UnknownKind else
+    if eqb n 13 then CutShort else
+    if eqb n 14 then RightsAbove63 else
+    if eqb n 15 then OutOfOrder else
+    if eqb n 16 then ForbiddenRealm else
+    if eqb n 17 then ObjectMissing else
+    if eqb n 18 then MaskMissing else
+    ControlMissing
+
+-- the refusal of a number and its value
+unfoldable pub refusal_of : ℕ → ℕ → Refusal
+refusal_of n value =
+    if ltb n 20 then Faulty (fault_of n) value else
+    if eqb n 20 then NothingToDrop else
+    if eqb n 21 then OutputTooShort else
+    if eqb n 22 then ModeAbove511 else
+    if eqb n 23 then TooManyGroups else
+    if eqb n 24 then RightMissing else
+    if eqb n 30 then NotWellFormed else
+    if eqb n 31 then Malformed else
+    if eqb n 32 then Conflict else
+    if eqb n 33 then NoFreeSlot else
+    if eqb n 34 then NumbersSpent else
+    if eqb n 35 then ListTooShort value else
+    if eqb n 36 then NoSuchToken else
+    if eqb n 37 then TypeLacking else
+    NoSuchPart
 
 -- done, with the values of what is answered; or the refusal
 module _ {A : Type 0} where
