@@ -21,12 +21,11 @@ use Rattle.claims.proofs.Sets.{nonempty}
 use Rattle.claims.proofs.Sentence.{in_conflict}
 use Rattle.table.specs.Table.{Table, limit, is_in_the_way}
 use Rattle.table.specs.Layout.{table_of, bytes_of}
-use Rattle.table.specs.Reply.{reply_says}
+use Rattle.words.specs.Refusal.{says_by, number_says}
 use Rattle.table.specs.Call.{says_of, left_of}
-use Rattle.table.specs.declared.reply.Reply.TheVariants.{Value}
 use Rattle.table.specs.declared.slot.Slot.TheVariants.{Held}
 use Rattle.table.proofs.Calls.{says_well}
-use Rattle.table.proofs.Determined.{same_reply}
+use Rattle.words.proofs.Refusals.{same_number}
 use Rattle.table.proofs.Means.{Ordered, table_bytes, bytes_formed, order_at, below_next}
 use Rattle.tokens.specs.Grant.{request_says, serve_says, room_says}
 use Rattle.tokens.specs.Widest.{with_more, Widened}
@@ -87,7 +86,7 @@ pub demand1 : Demand1
 unfolding plan_says
 demand1 = record {
   check = λ list r c. rw c.answer (check_answers list);
-  read_record = λ tail r p. read_answers r;
+  read_record = λ tail r p. rw p.answer (read_answers tail);
   step = λ walk list r p. rw p.answer (step_answers walk list);
   evaluate = λ list groups caller file r e. rw e.answer (evaluation_answers list groups caller file);
   decide = λ list groups caller file guard r f. rw f.answer (decided_answers list groups caller file guard);
@@ -190,7 +189,7 @@ module _ (t : Table) (s : Sound t) (claim : Claim) (shaped : malformed claim (li
       let o = (all_sound turns t s).order in
       let r = run_returns turns t s present a.returned in
       let fine : malformed claim (limit u) ≡ false = rw (all_limit turns t) shaped in
-      let spoken : reply_says a.reply ≡ grant_says claim a.access u = rw r.0 at a.grant.answer ∙ says_there (grant_says claim a.access) u o in
+      let spoken : number_says a.reply ≡ grant_says claim a.access u = rw r.0 at a.grant.answer ∙ says_there (grant_says claim a.access) u o in
       record {
         answers = r.1;
         table = ap table_of r.0 ∙ table_bytes u o;
@@ -234,9 +233,9 @@ few_in_the_way claim t = those_few (is_in_the_way claim) t.slots
 
 -- the list is read off the bytes that an ask which was done wrote
 module _ (t : Table) (s : Sound t) (bytes : List ℕ) (spelled : bytes ≡ bytes_of t) (claim : Claim) (access : Access) (out : List ℕ) where
-  of_ask_lem : (count : ℕ) (after : List ℕ) → Asks bytes claim access out (Value count) after
+  of_ask_lem : (count : ℕ) (after : List ℕ) → Asks bytes claim access out (Ok count) after
       → (turns : List Turn) (present : List ℕ) (said : Said) → Again bytes claim turns present said → LeastThatServes (entries_in count after) turns present said
-  unfolding ask_says reply_says left
+  unfolding ask_says says_by left
   of_ask_lem count after a turns present said again =
       let o = s.order in
       let says : done (count ∷ []) ≡ ask_says claim access out t = rw spelled at a.answer ∙ says_there (ask_says claim access out) t o in
@@ -260,9 +259,9 @@ resuming = record {
 }
 
 pub ask_is_done : AskIsDone
-unfolding ask_says judged_says request_says and_then list_says reply_says
+unfolding ask_says judged_says request_says and_then list_says says_by
 ask_is_done bytes formed claim shaped access permitted out room r after a =
     let t = table_of bytes in
     let few : length (list_for claim t) ≤ length out = omega (arith, list_length claim t, few_in_the_way claim t) in
     let says : ask_says claim access out t ≡ done (length (in_the_way claim t) ∷ []) = rw (shaped, permitted, le-ltb (length out) (length (list_for claim t)) few) refl in
-    (length (in_the_way claim t), same_reply r (Value (length (in_the_way claim t))) (a.answer ∙ says_well (ask_says claim access out) bytes formed ∙ says) refl)
+    (length (in_the_way claim t), same_number r (Ok (length (in_the_way claim t))) (a.answer ∙ says_well (ask_says claim access out) bytes formed ∙ says) refl)

@@ -20,12 +20,11 @@ use Rattle.claims.proofs.Sets.{member, part_less}
 use Rattle.claims.proofs.Fewer.{none_lacking}
 use Rattle.table.specs.Table.{Table, limit, is_in_the_way}
 use Rattle.table.specs.Form.{is_token}
-use Rattle.table.specs.Reply.{reply_says}
-use Rattle.table.specs.declared.reply.Reply.TheVariants.{Done}
+use Rattle.words.specs.Refusal.{says_by}
+use Rattle.words.proofs.Refusals.{same_plain}
 use Rattle.table.specs.declared.slot.Slot.{Slot}
 use Rattle.table.specs.declared.slot.Slot.TheVariants.{Free, Held}
 use Rattle.table.proofs.Means.{Ordered, order_at}
-use Rattle.table.proofs.Determined.{same_reply}
 use Rattle.returns.specs.Return.{is_of, types_in, place_in, token_in, return_says}
 use Rattle.audit.specs.Audit.{apart}
 use Rattle.audit.proofs.Exactly.{tokens_apart}
@@ -129,8 +128,8 @@ ready_stays t g h c apart r = record {
 
 -- returns that are ready and name nothing twice are done, one after the other
 all_done : (turns : List Turn) (t : Table) → Sound t → ((g : Return) → Memᴰ g (givens turns) → Ready t g) → NoneTwice (givens turns)
-    → Answered turns t → (turn : Turn) → Memᴰ turn turns → turn.reply ≡ Done
-unfolding Answered NoneTwice reply_says
+    → Answered turns t → (turn : Turn) → Memᴰ turn turns → turn.reply ≡ Ok tt
+unfolding Answered NoneTwice says_by
 all_done [] t sound ready apart answers turn m = absurd (Memᴰ.not-nil m)
 all_done (first ∷ turns) t sound ready apart answers turn m =
     go (Memᴰ.cases_cons m)
@@ -140,12 +139,12 @@ all_done (first ∷ turns) t sound ready apart answers turn m =
     says_done : says first.given t ≡ done []
     says_done = ready_says t sound first.given (ready first.given (Memᴰ.head refl))
 
-    go : (turn ≡ first) ⊎ Memᴰ turn turns → (Memᴰ turn turns → turn.reply ≡ Done) → turn.reply ≡ Done
-    go (inl p) rest = rw p (same_reply first.reply Done (answers.0 ∙ says_done) refl)
+    go : (turn ≡ first) ⊎ Memᴰ turn turns → (Memᴰ turn turns → turn.reply ≡ Ok tt) → turn.reply ≡ Ok tt
+    go (inl p) rest = rw p (same_plain first.reply (Ok tt) (answers.0 ∙ says_done) refl)
     go (inr p) rest = rest p
 
 module _ (claim : Claim) (t : Table) (sound : Sound t) (turns : List Turn) (split : Split (entries claim t.slots) (givens turns)) (answers : Answered turns t) where
-  pub none_refused : (turn : Turn) → Memᴰ turn turns → turn.reply ≡ Done
+  pub none_refused : (turn : Turn) → Memᴰ turn turns → turn.reply ≡ Ok tt
   none_refused =
       all_done turns t sound
       (λ g m. record {

@@ -18,11 +18,9 @@ use Rattle.claims.specs.declared.claim.Claim.{Claim}
 use Rattle.table.specs.Table.{Table}
 use Rattle.table.specs.Layout.{Fits, count, table_of, bytes_of}
 use Rattle.table.specs.Form.{is_length}
-use Rattle.table.specs.Reply.{reply_says}
+use Rattle.words.specs.Refusal.{says_by, plain_says}
 use Rattle.table.specs.Fill.{filled, fill_says, Fills}
 use Rattle.table.specs.Call.{says_of, left_of}
-use Rattle.table.specs.declared.reply.Reply.{Reply}
-use Rattle.table.specs.declared.reply.Reply.TheVariants.{Done}
 use Rattle.table.specs.declared.slot.Slot.{Slot}
 use Rattle.table.specs.declared.slot.Slot.TheVariants.{Free, Held}
 use Rattle.table.proofs.Cuts.{sized}
@@ -73,12 +71,12 @@ unfolding filled
 fresh_length n = length-replicate n Free
 
 -- a fill leaves a fresh table, or is refused
-filling : (bytes : List ℕ) (r : Reply) (after : List ℕ) → Fills bytes r after → Stands after ⊎ ((reply_says r ≡ refused 30 []) × (after ≡ bytes))
+filling : (bytes : List ℕ) (r : Done) (after : List ℕ) → Fills bytes r after → Stands after ⊎ ((plain_says r ≡ refused 30 []) × (after ≡ bytes))
 unfolding fill_says left
 filling bytes r after f = go (is_length (length bytes)) refl f.answer f.table_after
   where
-    go : (b : Bool) → is_length (length bytes) ≡ b → reply_says r ≡ (if b then done [] else refused 30 [])
-        → after ≡ left (if b then done [] else refused 30 []) (bytes_of (filled (count bytes))) bytes → Stands after ⊎ ((reply_says r ≡ refused 30 []) × (after ≡ bytes))
+    go : (b : Bool) → is_length (length bytes) ≡ b → plain_says r ≡ (if b then done [] else refused 30 [])
+        → after ≡ left (if b then done [] else refused 30 []) (bytes_of (filled (count bytes))) bytes → Stands after ⊎ ((plain_says r ≡ refused 30 []) × (after ≡ bytes))
     go true q e z =
         let size = sized bytes q in
         let long : length (bytes_of (filled (count bytes))) ≡ length bytes = bytes_length (filled (count bytes)) ∙ rw (fresh_length (count bytes)) (sym size.whole) in
@@ -228,7 +226,7 @@ call_stands : (call : Call) (before after : List ℕ) → Leaves call before aft
 unfolding Leaves is_fill
 call_stands to_fill before after l s = go (filling before l.0 after l.1)
   where
-    go : Stands after ⊎ ((reply_says l.0 ≡ refused 30 []) × (after ≡ before)) → Stands after
+    go : Stands after ⊎ ((plain_says l.0 ≡ refused 30 []) × (after ≡ before)) → Stands after
     go (inl p) = p
     go (inr p) = (as_it_was p.1 s).stands
 call_stands (to_ask claim access out) before after l s = (call_follows (to_ask claim access out) before after refl l s).stands
@@ -247,10 +245,10 @@ runs_stand [] before after r s = (as_it_was r s).stands
 runs_stand (call ∷ calls) before after r s = runs_stand calls r.0 after r.2 (call_stands call before r.0 r.1 s)
 
 pub reached_stands : (bytes : List ℕ) → Reached bytes → Stands bytes
-unfolding reply_says
-reached_stands bytes r = runs_stand r.calls r.fresh bytes r.runs (go (filling r.lent Done r.fresh r.fill))
+unfolding says_by
+reached_stands bytes r = runs_stand r.calls r.fresh bytes r.runs (go (filling r.lent (Ok tt) r.fresh r.fill))
   where
-    go : Stands r.fresh ⊎ ((reply_says Done ≡ refused 30 []) × (r.fresh ≡ r.lent)) → Stands r.fresh
+    go : Stands r.fresh ⊎ ((plain_says (Ok tt) ≡ refused 30 []) × (r.fresh ≡ r.lent)) → Stands r.fresh
     go (inl p) = p
     go (inr p) = absurd (not_done 30 [] [] (sym p.0))
 
@@ -297,7 +295,7 @@ module _ (claim : Claim) (fits : Fits claim) (t : Table) (sound : Sound t) (numb
       (n, record { stands = record { table = granted claim t; spelled = spelled; sound = o.0 }; rises = omega (arith, granted_next claim t) })
 
 gives_follows : (bytes : List ℕ) (s : Stands bytes) (number : ℕ) (after : List ℕ) → Gives bytes number after → (number ≡ s.table.next) × Follows (number + 1) after
-unfolding reply_says grant_says plainSays judged_says and_then
+unfolding says_by grant_says plainSays judged_says and_then
 gives_follows bytes s number after (judged claim access fits g) =
     given_follows claim fits s.table s.sound number (grant_says claim access) (as_plain claim access s.table (number ∷ [])) bytes after s.spelled g.answer g.table_after
 gives_follows bytes s number after (unjudged claim fits g) =

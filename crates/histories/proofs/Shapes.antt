@@ -1,5 +1,5 @@
 -- Every call answers in its shape: so many values, or one of its refusals with the value that goes with it. Assumes nothing.
-use Rattle.std.specs.Prelude.{if◌then◌else◌}
+use Rattle.std.specs.Prelude.{if◌then◌else◌, Option, None, Some, Ok, Err}
 use mathlib.Core.Path.{◌≡◌, refl, sym}
 use mathlib.Core.Bool.{Bool, true, false, cond, not, ◌&&◌}
 use mathlib.Core.List.{List, [], ◌∷◌}
@@ -14,17 +14,17 @@ use Rattle.words.specs.Said.{Said, done, refused, and_then}
 use Rattle.words.specs.Realm.{unknown_realm, same_realm, realm_at}
 use Rattle.words.specs.declared.realm.Realm.{Realm}
 use Rattle.words.proofs.Tests.{differ, and_left, and_right}
-use Rattle.records.specs.Standing.{rises, is_forbidden}
+use Rattle.records.specs.Kind.{size, is_known}
 use Rattle.list.specs.Fault.{begins, no_record, fault, Seen, end_fault}
-use Rattle.records.specs.Reading.{read_of, when_whole, record_values, read_says}
-use Rattle.list.specs.Walking.{seen_of, walk_after, refused_or, heard, step_of, walk_values, step_says}
-use Rattle.list.specs.declared.walk.Step.{Step}
-use Rattle.list.specs.declared.walk.Step.TheVariants.{Next, Refused, End}
+use Rattle.records.specs.Reading.{Read, read_as, read_of, when_whole, record_of, record_values, read_says}
+use Rattle.list.specs.Walking.{Step, seen_of, walk_after, refused_or, heard, step_of, walk_values, met_values, step_says}
 use Rattle.list.specs.declared.walk.Walk.{Walk}
 use Rattle.list.specs.Checking.{Found, cut, records, refused_at, passed, faults_after, seen_in, check_says}
 use Rattle.records.specs.declared.records.Record.{Record}
-use Rattle.records.specs.declared.records.Read.{Read}
-use Rattle.records.specs.declared.records.Read.TheVariants.{Nothing, Unknown, Short, Whole}
+use Rattle.words.specs.Refusal.{number_of, refusal_number, refusal_value, values_in, refusal_says, says_by}
+use Rattle.words.specs.declared.refusal.Fault.{Fault}
+use Rattle.words.specs.declared.refusal.Fault.TheVariants.{TooLong, NoDefaultRealm, UnknownKind, CutShort, RightsAbove63, OutOfOrder, ForbiddenRealm, ObjectMissing, MaskMissing, ControlMissing}
+use Rattle.words.specs.declared.refusal.Refusal.TheVariants.{Faulty}
 use Rattle.evaluate.specs.Evaluation.{Decided, bare, unless_too_many, unless_refused, by_step, list_gives, evaluation}
 use Rattle.evaluate.specs.declared.asking.Caller.{Caller}
 use Rattle.evaluate.specs.declared.asking.File.{File}
@@ -114,79 +114,74 @@ module _ (s : Shape) where
   of_bytes says bytes p all = either_way (well_formed bytes) (says (table_of bytes)) (refused 30 []) (all (table_of bytes)) p
 
 -- a list's own: 10 to 19, each with its place
-fault_answers : (home : Realm) (earlier : Record) (at : ℕ) (read : Read) → is_answer of_check (refused_at at (fault home earlier read)) ≡ true
-unfolding refused_at fault is_answer of_check shape faults any_of
-fault_answers home earlier at Nothing = refl
-fault_answers home earlier at Unknown = refl
-fault_answers home earlier at Short = refl
-fault_answers home earlier at (Whole r) = go (ltb 63 r.rights) (rises earlier r) (is_forbidden home r)
-  where
-    go : (a b c : Bool) → is_answer of_check (refused_at at (if a then 14 else if not b then 15 else if c then 16 else 0)) ≡ true
-    go true b c = refl
-    go false false c = refl
-    go false true true = refl
-    go false true false = refl
+fault_answer : (at : ℕ) (fault : Fault) → is_answer of_check (refused (number_of fault) (at ∷ [])) ≡ true
+unfolding number_of is_answer of_check shape faults any_of
+fault_answer at TooLong = refl
+fault_answer at NoDefaultRealm = refl
+fault_answer at UnknownKind = refl
+fault_answer at CutShort = refl
+fault_answer at RightsAbove63 = refl
+fault_answer at OutOfOrder = refl
+fault_answer at ForbiddenRealm = refl
+fault_answer at ObjectMissing = refl
+fault_answer at MaskMissing = refl
+fault_answer at ControlMissing = refl
 
-end_answers : (at : ℕ) (seen : Seen) → is_answer of_check (refused_at at (end_fault seen)) ≡ true
-unfolding refused_at end_fault is_answer of_check shape faults any_of
-end_answers at seen = go (not (seen.user && (seen.group && seen.other))) (seen.wanting && not seen.mask) seen.powerless
-  where
-    go : (a b c : Bool) → is_answer of_check (refused_at at (if a then 17 else if b then 18 else if c then 19 else 0)) ≡ true
-    go true b c = refl
-    go false true c = refl
-    go false false true = refl
-    go false false false = refl
+fault_answers : (at : ℕ) (fault : Option Fault) → is_answer of_check (refused_at at fault) ≡ true
+unfolding refused_at is_answer of_check shape
+fault_answers at None = refl
+fault_answers at (Some fault) = fault_answer at fault
 
 faults_answer : (home : Realm) (earlier : Record) (all : List Found) → is_answer of_check (faults_after home earlier all) ≡ true
 unfolding faults_after is_answer of_check shape
 faults_answer home earlier [] = refl
 faults_answer home earlier (f ∷ fs) =
-    one_after of_check _ _ (answers_refuse of_check _ (fault_answers home earlier f.at f.read)) (faults_answer home (passed f.read) fs)
+    one_after of_check _ _ (answers_refuse of_check _ (fault_answers f.at (fault home earlier f.read))) (faults_answer home (passed f.read) fs)
 
 pub check_answers : (list : List ℕ) → is_answer of_check (check_says list) ≡ true
 unfolding check_says is_answer of_check shape faults any_of
 check_answers list =
     either_way of_check (ltb 4096 (length list)) (refused 10 (0 ∷ [])) _ refl
     (either_way of_check (not (begins list)) (refused 11 (0 ∷ [])) _ refl
-    (one_after of_check _ _ (answers_refuse of_check _ (faults_answer (realm_at 1 list) no_record (cut list))) (end_answers (length list) (seen_in (records list)))))
+    (one_after of_check _ _ (answers_refuse of_check _ (faults_answer (realm_at 1 list) no_record (cut list))) (fault_answers (length list) (end_fault (seen_in (records list))))))
 
 -- a record read, and a step of the walk
-pub read_answers : (r : Read) → is_answer_or_end of_read (read_says r) ≡ true
-unfolding read_says record_values is_answer_or_end is_answer of_read shape any_of
-read_answers Nothing = refl
-read_answers Unknown = refl
-read_answers Short = refl
-read_answers (Whole r) = refl
-
-refused_or_lem : (number place : ℕ) (step : Step) → is_answer of_check (refused_at place number) ≡ true → is_answer_or_end of_step (step_says step) ≡ true
-    → is_answer_or_end of_step (step_says (refused_or number place step)) ≡ true
-unfolding refused_or refused_at step_says is_answer_or_end refuses within of_check of_step shape faults any_of all_of
-refused_or_lem number place step p q = go (eqb number 0) p
+pub read_answers : (tail : List ℕ) → is_answer_or_end of_read (read_says (read_of tail)) ≡ true
+unfolding read_of read_as read_says record_values number_of is_answer_or_end is_answer of_read shape any_of
+read_answers tail = go (eqb (length tail) 0) (not (is_known (get_or tail 0 0))) (ltb (length tail) (size (get_or tail 0 0)))
   where
-    go : (b : Bool) → is_answer of_check (if b then done [] else refused number (place ∷ [])) ≡ true → is_answer_or_end of_step (step_says (if b then step else Refused number place)) ≡ true
-    go true z = q
-    go false z = wider of_check of_step refl (refused number (place ∷ [])) z
+    go : (a b c : Bool)
+        → is_answer_or_end of_read (read_says (if a then Ok None else if b then Err UnknownKind else if c then Err CutShort else Ok (Some (record_of (get_or tail 0 0) tail)))) ≡ true
+    go true b c = refl
+    go false true c = refl
+    go false false true = refl
+    go false false false = refl
 
-met : (walk : Walk) (read : Read) → is_answer_or_end of_step (step_says (when_whole read (λ r. Next r (walk_after walk r)) End)) ≡ true
-unfolding when_whole step_says record_values walk_values is_answer_or_end is_answer of_step shape
-met walk Nothing = refl
-met walk Unknown = refl
-met walk Short = refl
-met walk (Whole r) = refl
+refused_or_lem : (fault : Option Fault) (place : ℕ) (step : Step) → is_answer_or_end of_step (step_says step) ≡ true
+    → is_answer_or_end of_step (step_says (refused_or fault place step)) ≡ true
+unfolding refused_or says_by refusal_says refusal_number refusal_value values_in is_answer_or_end refuses within of_check of_step shape faults any_of all_of
+refused_or_lem None place step q = q
+refused_or_lem (Some fault) place step q = wider of_check of_step refl (refused (number_of fault) (place ∷ [])) (fault_answer place fault)
+
+met : (walk : Walk) (read : Read) → is_answer_or_end of_step (step_says (when_whole read (λ r. Ok (Some (r, walk_after walk r))) (Ok None))) ≡ true
+unfolding when_whole says_by met_values record_values walk_values is_answer_or_end is_answer of_step shape
+met walk (Ok None) = refl
+met walk (Ok (Some r)) = refl
+met walk (Err fault) = refl
 
 pub step_answers : (walk : Walk) (list : List ℕ) → is_answer_or_end of_step (step_says (step_of walk list)) ≡ true
-unfolding step_of heard step_says is_answer_or_end is_answer of_step shape faults any_of
+unfolding step_of heard says_by met_values refusal_says refusal_number refusal_value values_in number_of is_answer_or_end is_answer of_step shape faults any_of
 step_answers walk list = go (ltb 4096 (length list)) (eqb walk.at 0 && not (begins list)) (leb (length list) walk.at)
   where
     go : (a b c : Bool)
-        → is_answer_or_end of_step (step_says (if a then Refused 10 0 else if b then Refused 11 0 else
-        if c then refused_or (end_fault (seen_of walk.marks)) (length list) End else heard walk (read_of (drop walk.at list)))) ≡ true
+        → is_answer_or_end of_step (step_says (if a then Err (Faulty TooLong 0) else if b then Err (Faulty NoDefaultRealm 0) else
+        if c then refused_or (end_fault (seen_of walk.marks)) (length list) (Ok None) else heard walk (read_of (drop walk.at list)))) ≡ true
     go true b c = refl
     go false true c = refl
-    go false false true = refused_or_lem (end_fault (seen_of walk.marks)) (length list) End (end_answers (length list) (seen_of walk.marks)) refl
+    go false false true = refused_or_lem (end_fault (seen_of walk.marks)) (length list) (Ok None) refl
     go false false false =
         let read = read_of (drop walk.at list) in
-        refused_or_lem (fault walk.home walk.earlier read) walk.at _ (fault_answers walk.home walk.earlier walk.at read) (met walk read)
+        refused_or_lem (fault walk.home walk.earlier read) walk.at _ (met walk read)
 
 -- the check's refusals are among those of each call that is lent a list
 check_refuses : (s : Shape) → within of_check s ≡ true → (list : List ℕ) → refuses s (check_says list) ≡ true

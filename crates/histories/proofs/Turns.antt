@@ -20,11 +20,10 @@ use Rattle.claims.specs.declared.claim.Claim.{Claim}
 use Rattle.claims.proofs.Sets.{nonempty}
 use Rattle.claims.proofs.Fewer.{in_without, without_in}
 use Rattle.table.specs.Table.{Table, limit}
-use Rattle.table.specs.Reply.{reply_says}
-use Rattle.table.specs.declared.reply.Reply.TheVariants.{Done}
+use Rattle.words.specs.Refusal.{says_by, plain_says}
+use Rattle.words.proofs.Refusals.{same_plain}
 use Rattle.table.specs.declared.slot.Slot.{Slot}
 use Rattle.table.specs.declared.slot.Slot.TheVariants.{Free, Held}
-use Rattle.table.proofs.Determined.{same_reply}
 use Rattle.returns.specs.Return.{keeps, loses, token_in, returned}
 use Rattle.audit.proofs.Exactly.{tokens_apart}
 use Rattle.histories.specs.History.{Return}
@@ -39,7 +38,7 @@ give_all (turn ∷ turns) t = give_all turns (give turn.given t)
 
 unfoldable pub Answered : List Turn → Table → Type 0
 Answered [] t = Unit {0}
-Answered (turn ∷ turns) t = (reply_says turn.reply ≡ says turn.given t) × Answered turns (give turn.given t)
+Answered (turn ∷ turns) t = (plain_says turn.reply ≡ says turn.given t) × Answered turns (give turn.given t)
 
 -- each slot is free, or holds its old token with fewer types
 pub record KeptTable (t t₀ : Table) : Type 0 where
@@ -145,7 +144,7 @@ module _ (t : Table) (given : Return) (x : Item) (values : List ℕ) (e : says g
 
 -- what a done return named is held no more
 pub given_gone : (turns : List Turn) (t : Table) → Sound t → Answered turns t → (x : Item) → GivenBack turns x → ¬ Holds (give_all turns t) x
-unfolding give_all Answered reply_says
+unfolding give_all Answered says_by
 given_gone turns t sound answers x g y = go turns t sound answers g.member y
   where
     go : (turns : List Turn) (t : Table) → Sound t → Answered turns t → Memᴰ g.turn turns → Holds (give_all turns t) x → ⊥
@@ -211,7 +210,7 @@ later turn turns x g = record { turn = g.turn; member = Memᴰ.tail g.member; do
 
 -- what was held and is held no more, a done return named
 pub lost_given : (turns : List Turn) (t : Table) → Answered turns t → (x : Item) → x.type < kinds → Holds t x → ¬ Holds (give_all turns t) x → GivenBack turns x
-unfolding give_all Answered reply_says
+unfolding give_all Answered says_by
 lost_given [] t answers x small y f = absurd (f y)
 lost_given (turn ∷ turns) t answers x small y f =
     go (says g t) refl (ℕ_discrete g.number x.number) (ℕ_discrete g.host x.host) (bit x.type g.types) refl
@@ -229,6 +228,6 @@ lost_given (turn ∷ turns) t answers x small y f =
     go (done values) e (yes n) (yes h) true p rest = record {
       turn = turn;
       member = Memᴰ.head refl;
-      done = same_reply turn.reply Done (answers.0 ∙ no_value g t values e) refl;
+      done = same_plain turn.reply (Ok tt) (answers.0 ∙ no_value g t values e) refl;
       names = record { number = n; host = h; type = p };
     }

@@ -19,14 +19,13 @@ use Rattle.claims.proofs.Ranges.{in_order}
 use Rattle.table.specs.Table.{Table, limit, is_in_the_way}
 use Rattle.table.specs.Layout.{table_of}
 use Rattle.table.specs.Form.{well_formed}
-use Rattle.table.specs.Reply.{reply_says}
+use Rattle.words.specs.Refusal.{says_by, number_says, refusal_says, refusal_number, refusal_value, values_in}
 use Rattle.table.specs.Call.{says_of, left_of}
-use Rattle.table.specs.declared.reply.Reply.{Reply}
-use Rattle.table.specs.declared.reply.Reply.TheVariants.{Refused}
+use Rattle.words.specs.declared.refusal.Refusal.TheVariants.{Conflict}
+use Rattle.words.proofs.Refusals.{same_number}
 use Rattle.table.specs.declared.slot.Slot.{Slot}
 use Rattle.table.specs.declared.slot.Slot.TheVariants.{Free, Held}
 use Rattle.table.proofs.Calls.{says_ill, says_well, left_refused}
-use Rattle.table.proofs.Determined.{same_reply}
 use Rattle.widest.specs.Widest.{Serves, Widest}
 use Rattle.tokens.specs.Grant.{last_number, room_says, request_says, serve_says, granted, grant_says as plainSays}
 use Rattle.tokens.specs.Widest.{with_more, Widened}
@@ -180,12 +179,12 @@ module _ (verdict : Said) (claim : Claim) where
           with_nobody = with_nobody (with_range claim f l) (table_of bytes).slots e;
         })))
 
-    no_wider_so : (f l : ℕ) → Wider claim first last f l → (r : Reply) (later : List ℕ) → reply_says r ≡ says_of (grant_by verdict (with_range claim f l)) bytes
-        → later ≡ left_of (grant_by verdict (with_range claim f l)) (granted (with_range claim f l)) bytes → (r ≡ Refused 32) × (later ≡ bytes)
-    unfolding reply_says
+    no_wider_so : (f l : ℕ) → Wider claim first last f l → (r : Counted) (later : List ℕ) → number_says r ≡ says_of (grant_by verdict (with_range claim f l)) bytes
+        → later ≡ left_of (grant_by verdict (with_range claim f l)) (granted (with_range claim f l)) bytes → (r ≡ Err Conflict) × (later ≡ bytes)
+    unfolding says_by refusal_says refusal_number refusal_value values_in
     no_wider_so f l wide r later p q =
         let e = wider_says f l wide in
-        (same_reply r (Refused 32) (p ∙ e) refl, q ∙ left_refused (grant_by verdict (with_range claim f l)) bytes (granted (with_range claim f l)) e)
+        (same_number r (Err Conflict) (p ∙ e) refl, q ∙ left_refused (grant_by verdict (with_range claim f l)) bytes (granted (with_range claim f l)) e)
 
     -- access apart
     apart_says : says_of (plainSays claim) bytes ≡ done ((table_of bytes).next ∷ [])
@@ -205,7 +204,7 @@ module _ (verdict : Said) (claim : Claim) where
     }
 
 pub widening : Widening
-unfolding grant_says plainSays judged_says and_then reply_says
+unfolding grant_says plainSays judged_says and_then says_by
 widening = record {
   as_grant = λ bytes after claim access number first last g.
       let verdict = access_says access claim.types in

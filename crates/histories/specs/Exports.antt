@@ -28,13 +28,12 @@ use Rattle.histories.specs.Widening.{Wider}
 -- the way back from an answer to what the call said, by what that call can answer
 unfoldable pub said_by : Shape → Answer → Said
 said_by s a =
-    if eqb a.refused 0 then done (take s.values (a.value ∷ a.first ∷ a.last ∷ [])) else
-    if any_of (eqb a.refused) s.valued then refused a.refused (a.detail ∷ []) else
-    refused a.refused []
+    if not (eqb a.refused 0) then (if any_of (eqb a.refused) s.valued then refused a.refused (a.detail ∷ []) else refused a.refused []) else
+    done (take s.values (a.value ∷ a.first ∷ a.last ∷ []))
 
 -- and to what it answered, where that is nothing more
 unfoldable pub done_by : Answer → Done
-done_by a = if eqb a.refused 0 then Ok tt else Err (refusal_of a.refused a.detail)
+done_by a = if not (eqb a.refused 0) then Err (refusal_of a.refused a.detail) else Ok tt
 
 -- what a claim's fields hold by their types: two bytes, eight bytes, and twelve for the file
 pub record Typed (claim : Claim) : Type 0 where
