@@ -1,5 +1,5 @@
 -- A request that is permitted goes on to the call's own; one that is not is refused after 30 and 31. Assumes nothing.
-use Rattle.std.specs.Prelude.{if◌then◌else◌}
+use Rattle.std.specs.Prelude.{if◌then◌else◌, Result, Ok, Err}
 use mathlib.Core.Path.{◌≡◌, refl, sym, ◌∙◌}
 use mathlib.Core.Bool.{Bool, true, false}
 use mathlib.Core.List.{List, [], ◌∷◌}
@@ -12,13 +12,14 @@ use Rattle.claims.specs.declared.claim.Claim.{Claim}
 use Rattle.table.specs.Table.{Table, limit}
 use Rattle.table.specs.Layout.{table_of}
 use Rattle.table.specs.Form.{well_formed}
-use Rattle.table.specs.Reply.{reply_says}
+use Rattle.words.specs.Refusal.{says_by, plain_says, number_says, refusal_says, refusal_number, refusal_value, values_in}
+use Rattle.words.specs.declared.refusal.Refusal.{Refusal}
+use Rattle.words.specs.declared.refusal.Refusal.TheVariants.{NotWellFormed, Malformed}
 use Rattle.table.specs.Call.{says_of, left_of}
-use Rattle.table.specs.declared.reply.Reply.{Reply}
-use Rattle.table.specs.declared.reply.Reply.TheVariants.{Refused}
 use Rattle.table.proofs.Calls.{says_ill, says_well}
 use Rattle.tokens.specs.Grant.{request_says, serve_says, grant_says as plainGrantSays, Grants as GrantsPlain}
-use Rattle.tokens.specs.Widest.{with_more, GrantsWidest as GrantsWidestPlain}
+use Rattle.tokens.specs.Widest.{with_more, widest_says, GrantsWidest as GrantsWidestPlain}
+use Rattle.tokens.specs.declared.granting.Granted.{Granted}
 use Rattle.tokens.specs.Ask.{list_says, ask_says as plainAskSays, Asks as AsksPlain}
 use Rattle.access.specs.Access.{Access, access_says}
 use Rattle.desk.specs.Order.{judged_says}
@@ -68,37 +69,38 @@ module _ (bytes : List ℕ) (claim : Claim) where
         go false = refl
 
   -- 30, 31 and then the verdict
-  module _ (verdict : Reply) where
+  module _ (verdict : Refusal) where
     module _ {formed : Bool} (told : formed ≡ well_formed bytes) where
-      pub ill_formed : formed ≡ false → Refuses bytes claim verdict (Refused 30)
-      unfolding reply_says
-      ill_formed e = record { answer = sym (says_ill (λ t. and_then (request_says claim t) (reply_says verdict)) bytes (sym told ∙ e)) }
+      pub ill_formed : formed ≡ false → Refuses bytes claim verdict NotWellFormed
+      unfolding refusal_says refusal_number refusal_value values_in
+      ill_formed e = record { answer = sym (says_ill (λ t. and_then (request_says claim t) (refusal_says verdict)) bytes (sym told ∙ e)) }
 
       module _ (well : formed ≡ true) {bad : Bool} (shaped : bad ≡ malformed claim 255) where
-        judged : (b : Bool) → bad ≡ b → says_of (λ t. and_then (request_says claim t) (reply_says verdict)) bytes ≡ and_then (if b then refused 31 [] else done []) (reply_says verdict)
+        judged : (b : Bool) → bad ≡ b → says_of (λ t. and_then (request_says claim t) (refusal_says verdict)) bytes ≡ and_then (if b then refused 31 [] else done []) (refusal_says verdict)
         unfolding request_says limit
-        judged b e = says_well (λ t. and_then (request_says claim t) (reply_says verdict)) bytes (sym told ∙ well) ∙ rw (sym shaped ∙ e) refl
+        judged b e = says_well (λ t. and_then (request_says claim t) (refusal_says verdict)) bytes (sym told ∙ well) ∙ rw (sym shaped ∙ e) refl
 
-        pub misshapen : bad ≡ true → Refuses bytes claim verdict (Refused 31)
-        unfolding reply_says and_then
+        pub misshapen : bad ≡ true → Refuses bytes claim verdict Malformed
+        unfolding refusal_says refusal_number refusal_value values_in and_then
         misshapen e = record { answer = sym (judged true e) }
 
         pub by_verdict : bad ≡ false → Refuses bytes claim verdict verdict
         unfolding and_then
         by_verdict e = record { answer = sym (judged false e) }
 
-  module _ (access : Access) (verdict : Reply) (judge : reply_says verdict ≡ access_says access claim.types) where
-    module _ (permitted : is_done (reply_says verdict) ≡ true) where
+  module _ (access : Access) {verdict : Result (Unit {0}) Refusal} (judge : plain_says verdict ≡ access_says access claim.types) where
+    module _ {none : Unit {0}} (permitted : verdict ≡ Ok none) where
       fine : is_done (access_says access claim.types) ≡ true
-      fine = rw (← judge) permitted
+      unfolding is_done says_by
+      fine = rw (← judge, permitted) refl
 
-      pub granting : {r : Reply} {after : List ℕ} → GrantsPlain bytes claim r after → Grants bytes claim access r after
+      pub granting : {r : Result ℕ Refusal} {after : List ℕ} → GrantsPlain bytes claim r after → Grants bytes claim access r after
       unfolding grant_says plainGrantSays left_of
       granting g =
           let e = permitted_says (access_says access claim.types) (serve_says claim) fine in
           record { answer = g.answer ∙ sym e; table_after = g.table_after ∙ rw e refl }
 
-      pub widening : {r : Reply} {after : List ℕ} → GrantsWidestPlain bytes claim r after → GrantsWidest bytes claim access r after
+      pub widening : {r : Result Granted Refusal} {after : List ℕ} → GrantsWidestPlain bytes claim r after → GrantsWidest bytes claim access r after
       unfolding grant_says plainGrantSays left_of
       widening g =
           let e = permitted_says (access_says access claim.types) (serve_says claim) fine in
@@ -113,28 +115,33 @@ module _ (bytes : List ℕ) (claim : Claim) where
             };
           }
 
-      pub asking : {out after : List ℕ} {r : Reply} → AsksPlain bytes claim out r after → Asks bytes claim access out r after
+      pub asking : {out after : List ℕ} {r : Result ℕ Refusal} → AsksPlain bytes claim out r after → Asks bytes claim access out r after
       unfolding ask_says plainAskSays
       asking {out} a =
           let e = permitted_says (access_says access claim.types) (list_says claim out) fine in
           record { answer = a.answer ∙ sym e; out_after = a.out_after ∙ rw e refl }
 
-    module _ (denied : is_done (reply_says verdict) ≡ false) {r : Reply} (refusal : Refuses bytes claim verdict r) where
+    module _ {why : Refusal} (denied : verdict ≡ Err why) {r : Refusal} (first : Refuses bytes claim why r) where
+      denial : refusal_says why ≡ access_says access claim.types
+      unfolding says_by
+      denial = (rw denied at judge)
+
       wrong : is_done (access_says access claim.types) ≡ false
-      wrong = rw (← judge) denied
+      unfolding is_done refusal_says
+      wrong = rw (← denial) refl
 
-      says : (own : Table → Said) → reply_says r ≡ says_of (judged_says claim (access_says access claim.types) own) bytes
-      says own = refusal.answer ∙ rw judge (sym (refused_says (access_says access claim.types) own wrong))
+      says : (own : Table → Said) → refusal_says r ≡ says_of (judged_says claim (access_says access claim.types) own) bytes
+      says own = first.answer ∙ rw denial (sym (refused_says (access_says access claim.types) own wrong))
 
-      pub not_granting : Grants bytes claim access r bytes
-      unfolding grant_says left_of
+      pub not_granting : Grants bytes claim access (Err r) bytes
+      unfolding grant_says left_of says_by
       not_granting = record {
         answer = says (serve_says claim);
         table_after = sym (left_kept (says_of (grant_says claim access) bytes) _ bytes (is_refused (access_says access claim.types) (serve_says claim) wrong));
       }
 
-      pub not_widening : GrantsWidest bytes claim access r bytes
-      unfolding grant_says left_of
+      pub not_widening : GrantsWidest bytes claim access (Err r) bytes
+      unfolding grant_says left_of says_by
       not_widening =
           let no = is_refused (access_says access claim.types) (serve_says claim) wrong in
           record {
@@ -147,8 +154,8 @@ module _ (bytes : List ℕ) (claim : Claim) where
             };
           }
 
-      pub not_asking : {out : List ℕ} → Asks bytes claim access out r out
-      unfolding ask_says
+      pub not_asking : {out : List ℕ} → Asks bytes claim access out (Err r) out
+      unfolding ask_says says_by
       not_asking {out} = record {
         answer = says (list_says claim out);
         out_after = sym (left_kept (says_of (ask_says claim access out) bytes) _ out (is_refused (access_says access claim.types) (list_says claim out) wrong));

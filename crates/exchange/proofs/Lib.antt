@@ -1,2 +1,2 @@
-pub mod Recorded
+pub mod Answered
 pub mod Determined

@@ -3,6 +3,7 @@ ghost use Rattle.std.specs.Prelude.{[], ◌∷◌};
 ghost use Rattle.words.specs.Said.{done};
 ghost use Rattle.words.specs.Refusal.{refusal_says};
 ghost use Rattle.exchange.specs.Meaning.{Means};
+ghost use Rattle.exchange.specs.declared.answer.Answer.{Answer};
 ghost use Rattle.exchange.specs.Answer.{answer_of, answer_for, answered, truth_says};
 
 use evaluate::Found;
@@ -49,6 +50,7 @@ pub trait Told {
 impl Told for () {
     ghost meant = { λ none. answer_of (done []) };
 
+    #[tactic(auto, unfolding(crate::specs::Answer::answer_of, crate::specs::Answer::answer_for))]
     fn told(self) -> Answer {
         Answer::DONE
     }
@@ -58,6 +60,7 @@ impl Told for () {
 impl Told for bool {
     ghost meant = { λ truth. answer_of (truth_says truth) };
 
+    #[tactic(auto, unfolding(crate::specs::Answer::truth_says))]
     fn told(self) -> Answer {
         u64::from(self).told()
     }
@@ -66,6 +69,7 @@ impl Told for bool {
 impl Told for u64 {
     ghost meant = { λ value. answer_of (done (value ∷ [])) };
 
+    #[tactic(auto, unfolding(crate::specs::Answer::answer_of, crate::specs::Answer::answer_for))]
     fn told(self) -> Answer {
         Answer {
             value: self,
@@ -85,6 +89,7 @@ impl Told for usize {
 impl Told for Granted {
     ghost meant = { λ g. answer_of (done (g.number ∷ g.first ∷ g.last ∷ [])) };
 
+    #[tactic(auto, unfolding(crate::specs::Answer::answer_of, crate::specs::Answer::answer_for))]
     fn told(self) -> Answer {
         Answer {
             value: self.number,
@@ -98,6 +103,7 @@ impl Told for Granted {
 impl Told for Found {
     ghost meant = { λ f. answer_for (done (f.rights ∷ [])) f.start f.size };
 
+    #[tactic(auto, unfolding(crate::specs::Answer::answer_for))]
     fn told(self) -> Answer {
         Answer {
             value: self.rights as u64,

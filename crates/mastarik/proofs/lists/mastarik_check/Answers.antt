@@ -1,6 +1,5 @@
-use borrow.Author.Rules.{rules}
 use Rattle.mastarik.proofs.Carried.{checks}
 use Rattle.mastarik.proofs.lists.mastarik_check.Goals as goal
 
 pub returns : goal.returns
-returns c = search (checks, rules)
+returns c = checks c.told.ensures c.check_list.ensures

@@ -1,6 +1,5 @@
-use borrow.Author.Rules.{rules}
 use Rattle.mastarik.proofs.Carried.{tells_needs}
 use Rattle.mastarik.proofs.types.mastarik_needs.Goals as goal
 
 pub returns : goal.returns
-returns c = search (tells_needs, rules)
+returns c = tells_needs c.told.ensures c.needed_rights.ensures

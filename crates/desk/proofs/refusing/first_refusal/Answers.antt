@@ -1,5 +1,5 @@
 use Rattle.desk.proofs.Judged.{ill_formed, misshapen, by_verdict}
-use Rattle.desk.proofs.refusing.refuse.Goals as goal
+use Rattle.desk.proofs.refusing.first_refusal.Goals as goal
 
 pub returns-then-not-well_formed : goal.returns-then-not-well_formed
 returns-then-not-well_formed c = ill_formed c.args.table.now c.args.claim c.args.verdict c.well_formed-2.ensures.answer c.if-not-well_formed.true

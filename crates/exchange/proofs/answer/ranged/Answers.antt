@@ -1,7 +1,0 @@
-use mathlib.Core.Path.{refl}
-use Rattle.exchange.specs.Answer.{answer_of, answer_for}
-use Rattle.exchange.proofs.answer.ranged.Goals as goal
-
-pub returns : goal.returns
-unfolding answer_of answer_for
-returns c = refl
