@@ -11,7 +11,7 @@ use crate::editing::Edited;
 use crate::refusal::OUTPUT_TOO_SHORT;
 use entry::{Entry, Spot};
 use words::Realm;
-use writes::{write_number32, write_realm};
+use writes::{write_number, write_realm};
 
 // All of a piece, from a place on.
 fn copy_to(out: &mut [u8], at: usize, piece: &[u8])
@@ -45,7 +45,7 @@ fn write_id_in(out: &mut [u8], at: usize, n: usize, id: u32)
     ensures { out.new ≡ written at (part_of n (digits 4 id)) out.old }
 {
     if n != 0 {
-        write_number32(out, at, id);
+        write_number(out, at, id);
     }
 }
 

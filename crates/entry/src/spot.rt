@@ -11,7 +11,7 @@ ghost use Rattle.entry.specs.Spot.{side_of, has_mask};
 use crate::entries::{Entry, id_length, realm_length, record_of};
 use list::kind::MASK_OBJ;
 use list::{Record, bodies_in_order};
-use words::{Realm, number32, realm_at};
+use words::{Realm, number_at, realm_at};
 
 // The record of the default realm, which comes before every entry.
 const HEADER: usize = 17;
@@ -41,7 +41,7 @@ fn head_of(tail: &[u8]) -> Record
     record_of(Entry {
         kind: kind,
         realm: realm_at(tail, 1),
-        id: number32(tail, id_at),
+        id: number_at(tail, id_at),
         rights: tail[rights_at],
     })
 }

@@ -11,4 +11,4 @@ pub bounds-tail-rights_at : goal.bounds-tail-rights_at
 bounds-tail-rights_at c = let k = get_or c.args.tail.now 0 0 in omega (arith, c.requires.1, size_is k c.requires.0, c.realm_length-id_at.ensures.0, c.id_length.ensures.0)
 
 pub returns : goal.returns
-returns c = rw (c.record_of.ensures.is_record, c.realm_at.ensures.answer, c.number32.ensures.answer, c.realm_length-id_at.ensures.0, c.id_length.ensures.0) (head_is c.args.tail.now c.requires.0)
+returns c = rw (c.record_of.ensures.is_record, c.realm_at.ensures.answer, c.number_at.ensures.answer, c.realm_length-id_at.ensures.0, c.id_length.ensures.0) (head_is c.args.tail.now c.requires.0)
