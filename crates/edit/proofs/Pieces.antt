@@ -1,4 +1,4 @@
--- What is written: a copy, and the record of an entry part by part. Assumes nothing.
+-- What is written: the record of an entry part by part. Assumes nothing.
 use Rattle.std.specs.Prelude.{if◌then◌else◌}
 use mathlib.Core.Path.{◌≡◌, refl, sym, ◌∙◌, ap}
 use mathlib.Core.List.{List, [], ◌∷◌, ◌++◌, append_assoc}
@@ -20,14 +20,6 @@ use Rattle.entry.specs.Spelling.{part_of, spelled}
 use Rattle.entry.specs.declared.entries.Entry.{Entry}
 use Rattle.entry.proofs.Lengths.{rights_is, size_is, realm_by_size}
 use Rattle.entry.proofs.Spelled.{part_whole, length_a, length_b, spelled_length}
-
--- what a copy into the part from a place on leaves
-pub copied : (at : ℕ) (piece out after : List ℕ) → after ≡ piece
-    → take at out ++ (after ++ drop (at + length piece - at) (drop at out)) ≡ over at piece out
-unfolding over
-copied at piece out after q =
-    let n : at + length piece - at ≡ length piece = omega arith in
-    rw (q, n, drop-drop (length piece) at out, append_assoc)
 
 -- a part of a body, where its kind has it and where it has not
 pub part_there : (at n : ℕ) (piece out : List ℕ) → (n ≡ 0 → ⊥) → written at piece out ≡ written at (part_of n piece) out

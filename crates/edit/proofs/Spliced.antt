@@ -7,33 +7,41 @@ use native.Mathlib.Omega.{arith}
 use borrow.Author.Tests.{lt-ltb, le-ltb}
 use lib.ListN.{length, take, drop, length-append, length-drop}
 use lib.Seq.{length-take-le}
+use Rattle.std.specs.Prelude.{Ok, Err}
 use Rattle.words.specs.Said.{left}
+use Rattle.words.specs.Refusal.{refusal_number, refusal_value, values_in, refusal_says, says_by}
+use Rattle.words.specs.declared.refusal.Refusal.TheVariants.{OutputTooShort}
 use Rattle.words.specs.Writing.{over}
 use Rattle.words.proofs.Written.{over_none, over_start, over_next}
-use Rattle.entry.specs.declared.spot.Spot.{Spot}
-use Rattle.edit.specs.Editing.{room_says, edited_says}
+use Rattle.entry.specs.declared.planning.Plan.{Plan}
+use Rattle.edit.specs.Editing.{room_says}
 use Rattle.edit.specs.Writing.{splice, Fits, Writes}
-use Rattle.edit.specs.declared.editing.Edited.TheVariants.{Length, Refused}
 
 -- a list with a piece in place of what stands at a spot
-module _ {list : List ℕ} {s : Spot} {m n : ℕ} (fits : Fits list s m n) (out piece : List ℕ) (sized : length piece ≡ m) where
+module _ {list : List ℕ} {plan : Plan} (fits : Fits list plan) (out piece : List ℕ) (sized : length piece ≡ plan.size) where
   abbrev at : ℕ
-  at = s.at
+  at = plan.spot.at
 
   abbrev end : ℕ
-  end = s.at + s.size
+  end = plan.spot.at + plan.spot.size
 
-  length_is : length (splice list s piece) ≡ n
+  abbrev m : ℕ
+  m = plan.size
+
+  abbrev n : ℕ
+  n = plan.total
+
+  length_is : length (splice list plan.spot piece) ≡ n
   unfolding splice
   length_is =
       omega (arith, fits.inside, fits.long, sized, length-append (take at list) (piece ++ drop end list), length-append piece (drop end list), length-take-le at list (omega (arith, fits.inside)), length-drop end list)
 
-  pub no_room : length out < n → Writes (splice list s piece) out (Refused 21) out
-  unfolding room_says left edited_says
+  pub no_room : length out < n → Writes (splice list plan.spot piece) out (Err OutputTooShort) out
+  unfolding room_says left says_by refusal_says refusal_number refusal_value values_in
   no_room h = record { answer = rw (length_is, lt-ltb (length out) n h) refl; out_after = rw (length_is, lt-ltb (length out) n h) refl }
 
   -- written piece by piece
-  piecewise : n ≤ length out → over (at + m) (drop end list) (over at piece (over 0 (take at list) out)) ≡ over 0 (splice list s piece) out
+  piecewise : n ≤ length out → over (at + m) (drop end list) (over at piece (over 0 (take at list) out)) ≡ over 0 (splice list plan.spot piece) out
   unfolding splice
   piecewise h =
       let a : length (take at list) ≡ at = length-take-le at list (omega (arith, fits.inside)) in
@@ -46,18 +54,21 @@ module _ {list : List ℕ} {s : Spot} {m n : ℕ} (fits : Fits list s m n) (out 
       ∙ over_next 0 (at + m) (take at list ++ piece) (drop end list) out b (omega (arith, fits.inside, fits.long))
       ∙ ap (λ (xs : List ℕ). over 0 xs out) (append_assoc (take at list) piece (drop end list))
 
-  pub room : n ≤ length out → {after : List ℕ} → after ≡ over (at + m) (drop end list) (over at piece (over 0 (take at list) out)) → Writes (splice list s piece) out (Length n) after
-  unfolding room_says left edited_says
+  pub room : n ≤ length out → {after : List ℕ} → after ≡ over (at + m) (drop end list) (over at piece (over 0 (take at list) out)) → Writes (splice list plan.spot piece) out (Ok n) after
+  unfolding room_says left says_by
   room h q = record {
     answer = rw (length_is, le-ltb (length out) n h) refl;
-    out_after = rw (length_is, le-ltb (length out) n h) (q ∙ piecewise h ∙ over_start (splice list s piece) out);
+    out_after = rw (length_is, le-ltb (length out) n h) (q ∙ piecewise h ∙ over_start (splice list plan.spot piece) out);
   }
 
 -- and with nothing in its place
-module _ {list : List ℕ} {s : Spot} {n : ℕ} (fits : Fits list s 0 n) (out : List ℕ) where
-  pub room_without : n ≤ length out → {after : List ℕ} → after ≡ over s.at (drop (s.at + s.size) list) (over 0 (take s.at list) out) → Writes (splice list s []) out (Length n) after
+module _ {list : List ℕ} {plan : Plan} (fits : Fits list plan) (nothing : plan.size ≡ 0) (out : List ℕ) where
+  pub room_without : plan.total ≤ length out → {after : List ℕ} → after ≡ over plan.spot.at (drop (plan.spot.at + plan.spot.size) list) (over 0 (take plan.spot.at list) out) → Writes (splice list plan.spot []) out (Ok plan.total) after
   room_without h q =
-      room fits out [] refl h
+      let at = plan.spot.at in
+      let end = plan.spot.at + plan.spot.size in
+      let here : at ≡ at + plan.size = omega arith in
+      room fits out [] (sym nothing) h
       (q
-      ∙ ap (λ (i : ℕ). over i (drop (s.at + s.size) list) (over 0 (take s.at list) out)) (sym (add-zero s.at))
-      ∙ ap (over (s.at + 0) (drop (s.at + s.size) list)) (sym (over_none s.at (over 0 (take s.at list) out))))
+      ∙ ap (λ (i : ℕ). over i (drop end list) (over 0 (take at list) out)) here
+      ∙ ap (over (at + plan.size) (drop end list)) (sym (over_none at (over 0 (take at list) out))))

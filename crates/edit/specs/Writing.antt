@@ -1,20 +1,22 @@
 -- Contracts of the crate's own functions: writing a new list that was judged.
-use Rattle.std.specs.Prelude.{◌≡◌, List, ◌++◌, ℕ, ◌+◌, ◌≤◌, length, take, drop}
+use Rattle.std.specs.Prelude.{◌≡◌, List, ◌++◌, ℕ, ◌+◌, ◌≤◌, length, take, drop, Result}
 use Rattle.words.specs.Said.{left}
+use Rattle.words.specs.Refusal.{number_says}
+use Rattle.words.specs.declared.refusal.Refusal.{Refusal}
 use Rattle.entry.specs.declared.spot.Spot.{Spot}
-use Rattle.edit.specs.Editing.{room_says, edited_says}
-use Rattle.edit.specs.declared.editing.Edited.{Edited}
+use Rattle.entry.specs.declared.planning.Plan.{Plan}
+use Rattle.edit.specs.Editing.{room_says}
 
 -- a list with a piece in place of what stands at a spot
 unfoldable pub splice : List ℕ → Spot → List ℕ → List ℕ
 splice list s piece = take s.at list ++ (piece ++ drop (s.at + s.size) list)
 
--- so many bytes can take the place of what stands at a spot, and the list is then n bytes long
-pub record Fits (list : List ℕ) (s : Spot) (size n : ℕ) : Type 0 where
-  pub inside : s.at + s.size ≤ length list
-  pub long : n + s.size ≡ length list + size
+-- the plan's bytes can take the place of what stands at its spot, and the list is then as long as it says
+pub record Fits (list : List ℕ) (plan : Plan) : Type 0 where
+  pub inside : plan.spot.at + plan.spot.size ≤ length list
+  pub long : plan.total + plan.spot.size ≡ length list + plan.size
 
 -- writing
-pub record Writes (new out : List ℕ) (r : Edited) (after : List ℕ) : Type 0 where
-  pub answer : edited_says r ≡ room_says new out
+pub record Writes (new out : List ℕ) (r : Result ℕ Refusal) (after : List ℕ) : Type 0 where
+  pub answer : number_says r ≡ room_says new out
   pub out_after : after ≡ left (room_says new out) new out

@@ -2,8 +2,8 @@
 #![tactic(auto)]
 
 mod editing;
-pub mod refusal;
 mod writing;
 
-pub use editing::{Edited, drop_entry, put_entry};
+pub use editing::{drop_entry, put_entry};
 pub use entry::Entry;
+pub use words::{Fault, Refusal};

@@ -7,13 +7,12 @@ ghost use Rattle.entry.specs.Entry.{is_entry, record_for};
 ghost use Rattle.entry.specs.Spelling.{part_of, spelled};
 ghost use Rattle.edit.specs.Writing.{splice, Fits, Writes};
 
-use crate::editing::Edited;
-use crate::refusal::OUTPUT_TOO_SHORT;
-use entry::{Entry, Spot};
-use words::Realm;
-use writes::{write_number32, write_realm};
+use entry::{Entry, Plan};
+use words::{Realm, Refusal};
+use writes::{write_number, write_realm};
 
 // All of a piece, from a place on.
+#[tactic(auto, using(words::proofs::Written::copied))]
 fn copy_to(out: &mut [u8], at: usize, piece: &[u8])
     requires { at + length piece.now ≤ length out.old }
     ensures { out.new ≡ over at piece.now out.old }
@@ -25,13 +24,11 @@ fn copy_to(out: &mut [u8], at: usize, piece: &[u8])
 fn realm_length(size: usize) -> usize
     ensures { result ≡ (if ltb size 18 then 0 else 16) }
 {
-    if size < 18 {
-        return 0;
-    }
-    16
+    if size < 18 { 0 } else { 16 }
 }
 
 // The realm of a body that has one of n bytes.
+#[tactic(auto, using(crate::proofs::Pieces::part_there, crate::proofs::Pieces::part_not_there))]
 fn write_realm_in(out: &mut [u8], at: usize, n: usize, realm: Realm)
     ensures { out.new ≡ written at (part_of n (realm_bytes realm)) out.old }
 {
@@ -41,11 +38,12 @@ fn write_realm_in(out: &mut [u8], at: usize, n: usize, realm: Realm)
 }
 
 // The id of a body that has one of n bytes.
+#[tactic(auto, using(crate::proofs::Pieces::part_there, crate::proofs::Pieces::part_not_there))]
 fn write_id_in(out: &mut [u8], at: usize, n: usize, id: u32)
     ensures { out.new ≡ written at (part_of n (digits 4 id)) out.old }
 {
     if n != 0 {
-        write_number32(out, at, id);
+        write_number(out, at, id);
     }
 }
 
@@ -63,44 +61,38 @@ fn write_record(out: &mut [u8], at: usize, entry: Entry, size: usize)
     out[id_at + id] = entry.rights;
 }
 
-// The list with the entry's record, so long, in place of what stands at a spot; n bytes.
+// The list with the entry's record in place of what stands at the plan's spot.
 pub(crate) fn write_put(
     list: &[u8],
-    spot: Spot,
+    plan: Plan,
     entry: Entry,
-    size: usize,
-    n: usize,
     out: &mut [u8],
-) -> Edited
-    requires { Fits list.now spot size n × (is_entry entry.kind ≡ true) × (size ≡ size_of entry.kind) }
-    ensures { Writes (splice list.now spot (spelled (record_for entry))) out.old result out.new }
+) -> Result<usize, Refusal>
+    requires { Fits list.now plan × (is_entry entry.kind ≡ true) × (plan.size ≡ size_of entry.kind) }
+    ensures { Writes (splice list.now plan.spot (spelled (record_for entry))) out.old result out.new }
 {
-    if out.len() < n {
-        return Edited::Refused {
-            number: OUTPUT_TOO_SHORT,
-        };
+    if out.len() < plan.total {
+        return Err(Refusal::OutputTooShort);
     }
-    let at = spot.at;
-    let end = at + spot.size;
+    let at = plan.spot.at;
+    let end = at + plan.spot.size;
     copy_to(out, 0, &list[0..at]);
-    write_record(out, at, entry, size);
-    copy_to(out, at + size, &list[end..]);
-    Edited::Length(n)
+    write_record(out, at, entry, plan.size);
+    copy_to(out, at + plan.size, &list[end..]);
+    Ok(plan.total)
 }
 
-// The list without what stands at a spot; n bytes.
-pub(crate) fn write_drop(list: &[u8], spot: Spot, n: usize, out: &mut [u8]) -> Edited
-    requires { Fits list.now spot 0 n }
-    ensures { Writes (splice list.now spot []) out.old result out.new }
+// The list without what stands at the plan's spot.
+pub(crate) fn write_drop(list: &[u8], plan: Plan, out: &mut [u8]) -> Result<usize, Refusal>
+    requires { Fits list.now plan × (plan.size ≡ 0) }
+    ensures { Writes (splice list.now plan.spot []) out.old result out.new }
 {
-    if out.len() < n {
-        return Edited::Refused {
-            number: OUTPUT_TOO_SHORT,
-        };
+    if out.len() < plan.total {
+        return Err(Refusal::OutputTooShort);
     }
-    let at = spot.at;
-    let end = at + spot.size;
+    let at = plan.spot.at;
+    let end = at + plan.spot.size;
     copy_to(out, 0, &list[0..at]);
     copy_to(out, at, &list[end..]);
-    Edited::Length(n)
+    Ok(plan.total)
 }

@@ -1,5 +1,5 @@
 -- Records spelled one after the other are cut apart again, and a list that passes is its records spelled. Assumes nothing.
-use Rattle.std.specs.Prelude.{if◌then◌else◌}
+use Rattle.std.specs.Prelude.{if◌then◌else◌, None, Some, Ok, Err}
 use mathlib.Core.Path.{◌≡◌, refl, sym, ◌∙◌, ap}
 use mathlib.Core.List.{List, [], ◌∷◌, ◌++◌, map}
 use mathlib.Core.Bool.{Bool, true, false}
@@ -14,12 +14,10 @@ use Rattle.words.specs.Number.{Bytes}
 use Rattle.words.specs.Realm.{realm_at}
 use Rattle.words.specs.declared.realm.Realm.{Realm}
 use Rattle.words.proofs.Tests.{Each}
-use Rattle.records.specs.Reading.{read_of, when_whole}
+use Rattle.records.specs.Reading.{Read, read_of, when_whole}
 use Rattle.list.specs.Fault.{no_record, fault}
 use Rattle.list.specs.Checking.{Found, found, cut_from, cut, Placed, placed, wholes, records, passed, faults_after, check_says}
 use Rattle.records.specs.declared.records.Record.{Record}
-use Rattle.records.specs.declared.records.Read.{Read}
-use Rattle.records.specs.declared.records.Read.TheVariants.{Nothing, Unknown, Short, Whole}
 use Rattle.records.proofs.Bodies.{some_size}
 use Rattle.records.proofs.Tails.{is, within_tail, empty}
 use Rattle.list.proofs.Passed.{no_refusal, passes}
@@ -34,7 +32,7 @@ places at (r ∷ rs) = placed at r ∷ places (at + r.size) rs
 
 unfoldable pub finds : ℕ → List Record → List Found
 finds at [] = []
-finds at (r ∷ rs) = found at (Whole r) ∷ finds (at + r.size) rs
+finds at (r ∷ rs) = found at (Ok (Some r)) ∷ finds (at + r.size) rs
 
 pub spelled_size : (r : Record) → Fitting r → length (spelled r) ≡ r.size
 spelled_size r f = spelled_length r ∙ sym f.sized
@@ -53,7 +51,7 @@ cut_from_lem (suc n) at (r ∷ rs) f h =
     let p = sized_some r f.0 in
     let z : length (spelled r ++ spell rs) ≡ 0 → ⊥ = λ q. omega arith in
     rw (ne_eqb (length (spelled r ++ spell rs)) 0 z, read_back r (spell rs) f.0, drop_at (spelled r) (spell rs) r.size s)
-    (ap (λ (fs : List Found). found at (Whole r) ∷ fs) (cut_from_lem n (at + r.size) rs f.1 (omega arith)))
+    (ap (λ (fs : List Found). found at (Ok (Some r)) ∷ fs) (cut_from_lem n (at + r.size) rs f.1 (omega arith)))
 
 pub cut_spell : (rs : List Record) → Each Fitting rs → cut (spell rs) ≡ finds 0 rs
 unfolding cut
@@ -99,12 +97,11 @@ respelled home (suc fuel) at earlier t v ht h q = go (λ at e u. respelled home 
         → faults_after home earlier (if b then [] else found at read ∷ when_whole read (λ r. cut_from fuel (at + r.size) (drop r.size t)) []) ≡ done v
         → Respelled t (map (λ (p : Placed). p.it) (wholes (if b then [] else found at read ∷ when_whole read (λ r. cut_from fuel (at + r.size) (drop r.size t)) [])))
     go ih true read z e q = record { same = no_bytes t (eqb-true (length t) 0 z); fit = tt }
-    go ih false Nothing z e q = absurd (eqb-false (length t) 0 z (empty t e))
-    go ih false Unknown z e q = absurd (omega (arith, (no_refusal at 12 (faults_after home no_record []) v q).0))
-    go ih false Short z e q = absurd (omega (arith, (no_refusal at 13 (faults_after home no_record []) v q).0))
-    go ih false (Whole r) z e q =
+    go ih false (Ok None) z e q = absurd (eqb-false (length t) 0 z (empty t e))
+    go ih false (Err wrong) z e q = let n = no_refusal at (Some wrong) (faults_after home no_record []) v q in cc (n.0)
+    go ih false (Ok (Some r)) z e q =
         let s = within_tail t r e in
-        let n = no_refusal at (fault home earlier (Whole r)) (faults_after home r (cut_from fuel (at + r.size) (drop r.size t))) v q in
+        let n = no_refusal at (fault home earlier (Ok (Some r))) (faults_after home r (cut_from fuel (at + r.size) (drop r.size t))) v q in
         let rest = ih (at + r.size) r (drop r.size t) (λ i. rw get_or-drop (ht (r.size + i))) (omega (arith, length-drop r.size t)) n.1 in
         record {
           same = rw (spelled_as t ht r (is t r e), rest.same) (take-append-drop r.size t);

@@ -1,5 +1,5 @@
 -- What the end of a list asks of its records, with one record put among them or dropped. Assumes nothing.
-use Rattle.std.specs.Prelude.{if◌then◌else◌}
+use Rattle.std.specs.Prelude.{if◌then◌else◌, None, Some}
 use mathlib.Core.Path.{◌≡◌, refl, sym, ◌∙◌, ap, subst}
 use mathlib.Core.List.{List, [], ◌∷◌, ◌++◌}
 use mathlib.Core.Bool.{Bool, true, false, cond, not, ◌||◌, ◌&&◌, and-true, and-false, or-true}
@@ -10,6 +10,7 @@ use lib.Dec.{eqb, leb, ltb}
 use lib.ListN.{length, length-append}
 use Rattle.words.specs.Test.{any_of}
 use Rattle.words.specs.declared.realm.Realm.{Realm}
+use Rattle.words.specs.declared.refusal.Fault.TheVariants.{ObjectMissing, MaskMissing, ControlMissing}
 use Rattle.words.proofs.Tests.{differ, Each, each_so, each_both, those_each, those_pass, any_none, none_any, any_append}
 use Rattle.records.specs.Kind.{body, bodies, body_of, wants_mask}
 use Rattle.records.specs.Standing.{rises, lacks_control}
@@ -47,17 +48,17 @@ pub record Ended (seen : Seen) : Type 0 where
   pub masked : (seen.wanting && not seen.mask) ≡ false
   pub powerful : seen.powerless ≡ false
 
-pub ended : (seen : Seen) → end_fault seen ≡ 0 → Ended seen
+pub ended : (seen : Seen) → end_fault seen ≡ None → Ended seen
 unfolding end_fault
 ended seen = go seen.user seen.group seen.other (seen.wanting && not seen.mask) seen.powerless refl refl refl refl refl
   where
     go : (u g o w p : Bool) → seen.user ≡ u → seen.group ≡ g → seen.other ≡ o → (seen.wanting && not seen.mask) ≡ w → seen.powerless ≡ p
-        → ◌≡◌ {A = ℕ} (if not (u && (g && o)) then 17 else if w then 18 else if p then 19 else 0) 0 → Ended seen
-    go false g o w p a b c d e q = absurd (omega arith)
-    go true false o w p a b c d e q = absurd (omega arith)
-    go true true false w p a b c d e q = absurd (omega arith)
-    go true true true true p a b c d e q = absurd (omega arith)
-    go true true true false true a b c d e q = absurd (omega arith)
+        → (if not (u && (g && o)) then Some ObjectMissing else if w then Some MaskMissing else if p then Some ControlMissing else None) ≡ None → Ended seen
+    go false g o w p a b c d e q = cc
+    go true false o w p a b c d e q = cc
+    go true true false w p a b c d e q = cc
+    go true true true true p a b c d e q = cc
+    go true true true false true a b c d e q = cc
     go true true true false false a b c d e q = record { user = a; group = b; other = c; masked = d; powerful = e }
 
 -- a mask_obj is wanted after a put where the record put wants one
@@ -133,11 +134,11 @@ module _ (r : Record) (entry : 1 < r.kind) (home : Realm) (e : Record) (rs : Lis
 
   -- the end of a list with the record put
   module _ (old : Ended (seen_by rs)) where
-    pub put_end : end_fault (seen_by (put_in r rs)) ≡ (if wants_mask r.kind && not (of_kind (λ k. eqb k 5) rs) then 18 else if lacks_control r then 19 else 0)
+    pub put_end : end_fault (seen_by (put_in r rs)) ≡ (if wants_mask r.kind && not (of_kind (λ k. eqb k 5) rs) then Some MaskMissing else if lacks_control r then Some ControlMissing else None)
     unfolding end_fault seen_by
     put_end =
         rw (of_put_lem (λ k. eqb k 2), of_put_lem (λ k. eqb k 3), of_put_lem (λ k. eqb k 4), of_put_lem (λ k. eqb k 5), of_put_lem wants_mask, powerless_put old.powerful, old.user, old.group, old.other, or-true (eqb r.kind 2), or-true (eqb r.kind 3), or-true (eqb r.kind 4))
-        (ap (λ (b : Bool). if b then 18 else if lacks_control r then 19 else 0) (mask_put r.kind (of_kind wants_mask rs) (of_kind (λ k. eqb k 5) rs) old.masked))
+        (ap (λ (b : Bool). if b then Some MaskMissing else if lacks_control r then Some ControlMissing else None) (mask_put r.kind (of_kind wants_mask rs) (of_kind (λ k. eqb k 5) rs) old.masked))
 
     -- the end of a list with the record dropped
     module _ (f : Fitting r) (fit : Each Fitting rs) where
@@ -216,11 +217,11 @@ module _ (r : Record) (entry : 1 < r.kind) (home : Realm) (e : Record) (rs : Lis
       n = length (spell (drop_from r rs))
 
       -- user_obj, group_obj or other_obj dropped
-      object_gone : r.kind ≤ 4 → end_fault (seen_by (drop_from r rs)) ≡ 17
+      object_gone : r.kind ≤ 4 → end_fault (seen_by (drop_from r rs)) ≡ Some ObjectMissing
       unfolding end_fault seen_by body_of bodies body
       object_gone h = go (eqb r.kind 2) (eqb r.kind 3) refl refl
         where
-          go : (a b : Bool) → eqb r.kind 2 ≡ a → eqb r.kind 3 ≡ b → end_fault (seen_by (drop_from r rs)) ≡ 17
+          go : (a b : Bool) → eqb r.kind 2 ≡ a → eqb r.kind 3 ≡ b → end_fault (seen_by (drop_from r rs)) ≡ Some ObjectMissing
           go true b p q = rw (gone_as 2 (eqb-true r.kind 2 p) refl refl) refl
           go false true p q = rw (gone_as 3 (eqb-true r.kind 3 q) refl refl, and-false (of_kind (λ k. eqb k 2) (drop_from r rs))) refl
           go false false p q =
@@ -228,16 +229,16 @@ module _ (r : Record) (entry : 1 < r.kind) (home : Realm) (e : Record) (rs : Lis
               rw (gone_as 4 k refl refl, and-false (of_kind (λ k. eqb k 3) (drop_from r rs)), and-false (of_kind (λ k. eqb k 2) (drop_from r rs))) refl
 
       objects_stay : 4 < r.kind
-          → end_fault (seen_by (drop_from r rs)) ≡ (if of_kind wants_mask (drop_from r rs) && not (of_kind (λ k. eqb k 5) (drop_from r rs)) then 18 else 0)
+          → end_fault (seen_by (drop_from r rs)) ≡ (if of_kind wants_mask (drop_from r rs) && not (of_kind (λ k. eqb k 5) (drop_from r rs)) then Some MaskMissing else None)
       unfolding end_fault seen_by
       objects_stay h =
           rw (kept_as 2 (λ z. omega arith) ∙ old.user, kept_as 3 (λ z. omega arith) ∙ old.group, kept_as 4 (λ z. omega arith) ∙ old.other, powerful_drop old.powerful) refl
 
-      pub drop_end : end_fault (seen_by (drop_from r rs)) ≡ (if leb r.kind 4 then 17 else if eqb r.kind 5 && ltb at n then 18 else 0)
+      pub drop_end : end_fault (seen_by (drop_from r rs)) ≡ (if leb r.kind 4 then Some ObjectMissing else if eqb r.kind 5 && ltb at n then Some MaskMissing else None)
       unfolding body_of bodies body
       drop_end = go (leb r.kind 4) (eqb r.kind 5) refl refl
         where
-          go : (a b : Bool) → leb r.kind 4 ≡ a → eqb r.kind 5 ≡ b → end_fault (seen_by (drop_from r rs)) ≡ (if a then 17 else if b && ltb at n then 18 else 0)
+          go : (a b : Bool) → leb r.kind 4 ≡ a → eqb r.kind 5 ≡ b → end_fault (seen_by (drop_from r rs)) ≡ (if a then Some ObjectMissing else if b && ltb at n then Some MaskMissing else None)
           go true b p q = object_gone (leb-true r.kind 4 p)
           go false true p q =
               let k = eqb-true r.kind 5 q in

@@ -1,23 +1,24 @@
 -- The check over records that are spelled: where they are in order it finds no fault, and with one record more it finds that one's. Assumes
 -- nothing.
-use Rattle.std.specs.Prelude.{if◌then◌else◌}
+use Rattle.std.specs.Prelude.{if◌then◌else◌, Option, None, Some, Ok}
 use mathlib.Core.Path.{◌≡◌, refl, ◌∙◌, ap}
 use mathlib.Core.List.{List, [], ◌∷◌, ◌++◌}
-use mathlib.Core.Bool.{Bool, true, false}
+use mathlib.Core.Bool.{Bool, true}
 use Prim.Native.Nat.{ℕ, ◌+◌}
 use native.Mathlib.Omega.{arith}
-use lib.Dec.{eqb, ltb}
+use lib.Dec.{ltb}
 use lib.ListN.{length, length-append}
 use Rattle.words.specs.Test.{any_of}
-use Rattle.words.specs.Said.{done, refused, and_then}
+use Rattle.words.specs.Said.{done, and_then}
 use Rattle.words.specs.declared.realm.Realm.{Realm}
+use Rattle.words.specs.declared.refusal.Fault.{Fault}
+use Rattle.words.specs.declared.refusal.Fault.TheVariants.{RightsAbove63, ForbiddenRealm}
 use Rattle.words.proofs.Tests.{Each}
 use Rattle.records.specs.Reading.{when_whole}
 use Rattle.records.specs.Standing.{rises, is_forbidden}
 use Rattle.list.specs.Fault.{fault}
 use Rattle.list.specs.Checking.{found, placed, refused_at, passed, faults_after, has}
 use Rattle.records.specs.declared.records.Record.{Record}
-use Rattle.records.specs.declared.records.Read.TheVariants.{Whole}
 use Rattle.list.proofs.Passed.{Sound}
 use Rattle.entry.specs.Spelling.{spelled, spell}
 use Rattle.entry.proofs.Spelled.{Fitting}
@@ -26,26 +27,23 @@ use Rattle.entry.proofs.Sorted.{InOrder}
 use Rattle.entry.proofs.Splits.{last_of}
 
 -- 14 and 16, of a record at its place in the order
-unfoldable pub own_fault : Realm → Record → ℕ
+unfoldable pub own_fault : Realm → Record → Option Fault
 own_fault home r =
-    if ltb 63 r.rights then 14 else
-    if is_forbidden home r then 16 else
-    0
+    if ltb 63 r.rights then Some RightsAbove63 else
+    if is_forbidden home r then Some ForbiddenRealm else
+    None
 
-nothing_after : (at number : ℕ) → and_then (refused_at at number) (done []) ≡ refused_at at number
+nothing_after : (at : ℕ) (wrong : Option Fault) → and_then (refused_at at wrong) (done []) ≡ refused_at at wrong
 unfolding and_then refused_at
-nothing_after at number = go (eqb number 0)
-  where
-    go : (b : Bool) → and_then (if b then done [] else refused number (at ∷ [])) (done []) ≡ (if b then done [] else refused number (at ∷ []))
-    go true = refl
-    go false = refl
+nothing_after at None = refl
+nothing_after at (Some wrong) = refl
 
 module _ (home : Realm) where
-  own_only : (e r : Record) → rises e r ≡ true → fault home e (Whole r) ≡ own_fault home r
+  own_only : (e r : Record) → rises e r ≡ true → fault home e (Ok (Some r)) ≡ own_fault home r
   unfolding fault own_fault
   own_only e r p = rw p refl
 
-  no_own : (r : Record) → Sound home r → own_fault home r ≡ 0
+  no_own : (r : Record) → Sound home r → own_fault home r ≡ None
   unfolding own_fault
   no_own r s = rw (s.rights, s.realm) refl
 

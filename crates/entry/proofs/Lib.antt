@@ -1,4 +1,5 @@
 pub mod Spelled
+pub mod Lengths
 pub mod Cuts
 pub mod Sorted
 pub mod Heads
@@ -6,11 +7,10 @@ pub mod Sides
 pub mod Splits
 pub mod Spots
 pub mod Parts
-pub mod Lengths
 pub mod Faultless
 pub mod Endings
 pub mod Verdicts
-pub mod Judged
+pub mod Ladders
 pub mod Located
 pub mod Outcomes
 pub mod Planned

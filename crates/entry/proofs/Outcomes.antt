@@ -1,94 +1,94 @@
--- How a plan ends: refused by the old list, by its kind, for nothing to drop, by the new list; or with the splice. Assumes nothing.
+-- How a plan ends: refused where its record is placed, for nothing to drop, by the new list; or with the splice. Assumes nothing.
+use Rattle.std.specs.Prelude.{Ok, Err}
 use mathlib.Core.Path.{◌≡◌, refl, sym, ◌∙◌, ap}
 use mathlib.Core.List.{List, [], ◌∷◌}
-use mathlib.Core.Bool.{Bool, true, false, not}
+use mathlib.Core.Bool.{true, false, not}
 use Prim.Native.Nat.{ℕ, ◌+◌, ◌<◌}
-use borrow.Author.Tests.{lt-ltb, not-true}
+use borrow.Author.Tests.{lt-ltb}
 use lib.Dec.{ltb}
 use lib.ListN.{length}
-use Rattle.words.specs.Said.{done, refused, and_then}
+use Rattle.words.specs.Said.{done, and_then}
+use Rattle.words.specs.Refusal.{number_of, refusal_number, refusal_value, values_in, refusal_says, says_by, plain_says}
+use Rattle.words.specs.declared.refusal.Refusal.{Refusal}
+use Rattle.words.specs.declared.refusal.Fault.TheVariants.{UnknownKind}
+use Rattle.words.specs.declared.refusal.Refusal.TheVariants.{Faulty, NothingToDrop}
 use Rattle.list.specs.Checking.{check_says}
+use Rattle.evaluate.specs.Evaluation.{Checks}
 use Rattle.records.specs.declared.records.Record.{Record}
-use Rattle.evaluate.specs.Evaluation.{verdict_says, Checks}
-use Rattle.evaluate.specs.declared.verdict.Verdict.{Verdict}
-use Rattle.evaluate.specs.declared.verdict.Verdict.TheVariants.{Fine, Refused as Faulty}
 use Rattle.entry.specs.Entry.{is_entry}
 use Rattle.entry.specs.NewList.{has_entry}
-use Rattle.entry.specs.Plan.{put_judged, drop_judged, plan_says, PlansPut, PlansDrop}
-use Rattle.entry.specs.Spot.{put_verdict, drop_verdict}
+use Rattle.entry.specs.Plan.{put_judged, drop_judged, spot_for, plan_at, plan_says, PlansPut, PlansDrop}
+use Rattle.entry.specs.Spot.{Says, Places, put_verdict, drop_verdict}
 use Rattle.entry.specs.declared.entries.Entry.{Entry}
 use Rattle.entry.specs.declared.spot.Spot.{Spot}
-use Rattle.entry.specs.declared.planning.Plan.TheVariants.{Splice, Refused, RefusedAt}
+use Rattle.entry.proofs.Ladders.{stops, stops_before}
 use Rattle.entry.proofs.Located.{Located, entered, spot_is, size_is, put_long, drop_long, put_judged_lem, drop_judged_lem, told}
 
--- the old list, checked
-module _ {list : List ℕ} {v : Verdict} (checks : Checks list v) where
-  old_says : {number place : ℕ} → v ≡ Faulty number place → check_says list ≡ refused number (place ∷ [])
-  unfolding verdict_says
-  old_says is = sym checks.answer ∙ rw is refl
-
-  pub checked : v ≡ Fine → check_says list ≡ done []
-  unfolding verdict_says
-  checked is = sym checks.answer ∙ rw is refl
+pub passing : {list : List ℕ} {none : Unit {0}} → Checks list (Ok none) → check_says list ≡ done []
+unfolding says_by
+passing checks = sym checks.answer
 
 module _ {list : List ℕ} {entry : Entry} where
-  -- refused by the old list
-  module _ {v : Verdict} {number place : ℕ} (checks : Checks list v) (is : v ≡ Faulty number place) where
-    pub put_old : PlansPut list entry (RefusedAt number place)
-    unfolding put_judged and_then plan_says
-    put_old = record { answer = rw (old_says checks is) refl }
+  -- a record is placed, or the old list or the entry's kind refuses
+  pub unchecked : {e : Refusal} → Checks list (Err e) → Places list entry (Err e)
+  unfolding says_by
+  unchecked {e} checks = record { answer = stops e (check_says list) _ (sym checks.answer); placed = tt }
 
-    pub drop_old : PlansDrop list entry (RefusedAt number place)
-    unfolding drop_judged and_then plan_says
-    drop_old = record { answer = rw (old_says checks is) refl }
+  pub unknown : {none : Unit {0}} → Checks list (Ok none) → is_entry entry.kind ≡ false → Places list entry (Err (Faulty UnknownKind 0))
+  unfolding says_by refusal_says refusal_number number_of refusal_value values_in and_then
+  unknown checks other = record { answer = rw (passing checks, other) refl; placed = tt }
 
-  -- refused for its kind
-  module _ (passing : check_says list ≡ done []) {b : Bool} (told : b ≡ is_entry entry.kind) (other : not b ≡ true) where
-    pub put_kind : PlansPut list entry (RefusedAt 12 0)
-    unfolding put_judged and_then plan_says
-    put_kind = record { answer = rw (passing, sym told ∙ not-true b other) refl }
+  pub is_placed : {none : Unit {0}} {r : Record} {s : Spot} → Checks list (Ok none) → is_entry entry.kind ≡ true → Says entry r → s ≡ spot_for list r → Places list entry (Ok (r, s))
+  unfolding says_by and_then
+  is_placed checks entered says found = record { answer = rw (passing checks, entered) refl; placed = (says, found) }
 
-    pub drop_kind : PlansDrop list entry (RefusedAt 12 0)
-    unfolding drop_judged and_then plan_says
-    drop_kind = record { answer = rw (passing, sym told ∙ not-true b other) refl }
+  -- refused where its record is placed
+  module _ {e : Refusal} (places : Places list entry (Err e)) where
+    pub put_unplaced : PlansPut list entry (Err e)
+    unfolding put_judged says_by
+    put_unplaced = record { answer = stops e (put_judged list entry) _ (stops_before e (check_says list) (not (is_entry entry.kind)) 12 (0 ∷ []) _ places.answer) }
+
+    pub drop_unplaced : PlansDrop list entry (Err e)
+    unfolding drop_judged says_by
+    drop_unplaced = record { answer = stops e (drop_judged list entry) _ (stops_before e (check_says list) (not (is_entry entry.kind)) 12 (0 ∷ []) _ places.answer) }
 
   module _ {r : Record} {s : Spot} (located : Located list entry r s) where
-    pub drop_nothing : s.size ≡ 0 → PlansDrop list entry (Refused 20)
-    unfolding drop_judged and_then plan_says
+    pub drop_nothing : s.size ≡ 0 → PlansDrop list entry (Err NothingToDrop)
+    unfolding drop_judged and_then says_by refusal_says refusal_number refusal_value values_in
     drop_nothing z =
         let none : has_entry list entry ≡ false = sym (told located) ∙ ap (ltb 0) z in
         record { answer = rw (located.passing, entered located, none) refl }
 
-    -- by the verdict on the new list
-    put_new : (n : ℕ) → n + s.size ≡ length list + r.size → put_judged list entry ≡ put_verdict list r s.at n
-    unfolding put_judged and_then
-    put_new n e = rw (located.passing, entered located) (put_judged_lem located n e)
+    -- by the verdict on the new list, n bytes long
+    module _ (n : ℕ) where
+      module _ (long : n + s.size ≡ length list + r.size) where
+        put_new : put_judged list entry ≡ put_verdict list r s.at n
+        unfolding put_judged and_then
+        put_new = rw (located.passing, entered located) (put_judged_lem located n long)
 
-    drop_new : (n : ℕ) → n + s.size ≡ length list → 0 < s.size → drop_judged list entry ≡ drop_verdict entry.kind s.at n
-    unfolding drop_judged and_then
-    drop_new n e some =
-        let there : has_entry list entry ≡ true = sym (told located) ∙ lt-ltb 0 s.size some in
-        rw (located.passing, entered located, there) (drop_judged_lem located n e)
+        pub put_refused : {e : Refusal} → plain_says (Err e) ≡ put_verdict list r s.at n → PlansPut list entry (Err e)
+        unfolding says_by
+        put_refused {e} judged = record { answer = stops e (put_judged list entry) _ (put_new ∙ sym judged) }
 
-    module _ {v : Verdict} (n : ℕ) where
-      module _ (judged : verdict_says v ≡ put_verdict list r s.at n) (e : n + s.size ≡ length list + r.size) where
-        pub put_refused : {number place : ℕ} → v ≡ Faulty number place → PlansPut list entry (RefusedAt number place)
-        unfolding verdict_says and_then plan_says
-        put_refused is = record { answer = rw (put_new n e ∙ sym judged ∙ ap verdict_says is) refl }
-
-        pub put_splice : v ≡ Fine → PlansPut list entry (Splice s r.size n)
-        unfolding verdict_says and_then
-        put_splice is = record {
-          answer = rw (put_new n e ∙ sym judged ∙ ap verdict_says is) (λ j. plan_says (Splice (spot_is located j) (size_is located j) (put_long located n e j)));
+        pub put_fine : {none : Unit {0}} → plain_says (Ok none) ≡ put_verdict list r s.at n → PlansPut list entry (Ok (plan_at s r.size n))
+        unfolding says_by and_then
+        put_fine judged = record {
+          answer = rw (put_new ∙ sym judged) (λ j. plan_says (Ok (plan_at (spot_is located j) (size_is located j) (put_long located n long j))));
         }
 
-      module _ (judged : verdict_says v ≡ drop_verdict entry.kind s.at n) (e : n + s.size ≡ length list) (some : 0 < s.size) where
-        pub drop_refused : {number place : ℕ} → v ≡ Faulty number place → PlansDrop list entry (RefusedAt number place)
-        unfolding verdict_says and_then plan_says
-        drop_refused is = record { answer = rw (drop_new n e some ∙ sym judged ∙ ap verdict_says is) refl }
+      module _ (long : n + s.size ≡ length list) (some : 0 < s.size) where
+        drop_new : drop_judged list entry ≡ drop_verdict r.kind s.at n
+        unfolding drop_judged and_then
+        drop_new =
+            let there : has_entry list entry ≡ true = sym (told located) ∙ lt-ltb 0 s.size some in
+            rw (located.passing, entered located, there) (drop_judged_lem located n long)
 
-        pub drop_splice : v ≡ Fine → PlansDrop list entry (Splice s 0 n)
-        unfolding verdict_says and_then
-        drop_splice is = record {
-          answer = rw (drop_new n e some ∙ sym judged ∙ ap verdict_says is) (λ j. plan_says (Splice (spot_is located j) 0 (drop_long located n e j)));
+        pub drop_refused : {e : Refusal} → plain_says (Err e) ≡ drop_verdict r.kind s.at n → PlansDrop list entry (Err e)
+        unfolding says_by
+        drop_refused {e} judged = record { answer = stops e (drop_judged list entry) _ (drop_new ∙ sym judged) }
+
+        pub drop_fine : {none : Unit {0}} → plain_says (Ok none) ≡ drop_verdict r.kind s.at n → PlansDrop list entry (Ok (plan_at s 0 n))
+        unfolding says_by and_then
+        drop_fine judged = record {
+          answer = rw (drop_new ∙ sym judged) (λ j. plan_says (Ok (plan_at (spot_is located j) 0 (drop_long located n long j))));
         }

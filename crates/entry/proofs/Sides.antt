@@ -1,88 +1,97 @@
--- Where a record stands by another: by what was tested, and what follows. Assumes nothing.
+-- Where a record stands by another: by what was compared, and what follows. Assumes nothing.
 use Rattle.std.specs.Prelude.{if◌then◌else◌}
 use mathlib.Core.Path.{◌≡◌, refl, sym, ◌∙◌}
-use mathlib.Core.List.{List}
 use mathlib.Core.Bool.{Bool, true, false}
-use Prim.Native.Nat.{ℕ, ◌≤◌, ◌<◌}
+use Prim.Native.Nat.{ℕ, ◌<◌}
 use native.Mathlib.Omega.{arith}
-use borrow.Author.Tests.{leb-true, lt-ltb}
-use lib.ListN.{get_or}
-use Rattle.words.proofs.Tests.{and_left}
-use Rattle.records.specs.Reading.{record_of}
+use borrow.Author.Tests.{ne_eqb, lt-ltb, le-ltb}
+use lib.Dec.{ltb}
+use Rattle.std.proofs.Common.{Ordering, Less, Equal, Greater}
+use Rattle.std.specs.Ordering.{MatchOrdering, nat_cmp, ordering_then}
+use Rattle.std.proofs.lemmas.Cmp.{ranked}
+use Rattle.words.specs.Number.{less}
+use Rattle.words.specs.Realm.{less_realm}
+use Rattle.words.proofs.Order.{tied}
 use Rattle.records.specs.Standing.{body_rises, rises}
 use Rattle.records.specs.declared.records.Record.{Record}
 use Rattle.records.proofs.Rising.{by_body}
-use Rattle.records.proofs.Ordered.{rises_asym}
 use Rattle.entry.specs.Entry.{is_entry}
 use Rattle.entry.specs.Spot.{side_of}
-use Rattle.entry.specs.declared.spot.Side.{Side}
-use Rattle.entry.specs.declared.spot.Side.TheVariants.{Before, Same, After}
+use Rattle.entry.proofs.Lengths.{is_above}
 
--- a lower kind comes before
-kinds_tell : (a b : Record) → a.kind < b.kind → rises a b ≡ true
-unfolding rises
-kinds_tell a b h = rw (lt-ltb a.kind b.kind h) refl
+-- before, after, or neither
+abbrev stands : Bool → Bool → Ordering
+stands before after = if before then Less else if after then Greater else Equal
 
--- where the record that a tail begins with is of no lower and of no higher kind than r, the bodies tell
-module _ (t : List ℕ) (q r : Record) (head : q ≡ record_of (get_or t 0 0) t) (entry : is_entry (get_or t 0 0) ≡ true) (low : r.kind ≤ get_or t 0 0) (high : get_or t 0 0 ≤ r.kind) where
-  one_kind : (q.kind ≡ r.kind) × (1 < r.kind)
-  unfolding record_of is_entry
-  one_kind = let two = leb-true 2 (get_or t 0 0) (and_left _ _ entry) in (rw head (omega arith), omega arith)
+-- two numbers, and what tells where they are equal
+tells : (a b : ℕ) (o : Ordering) (x y : Bool) → (a ≡ b → o ≡ stands x y) → ordering_then (nat_cmp a b) o ≡ stands (less a b x) (less b a y)
+tells a b o x y same = go (nat_cmp a b) (ranked a b (nat_cmp a b) refl)
+  where
+    go : (c : Ordering) → MatchOrdering c (a < b) (a ≡ b) (b < a) → ordering_then c o ≡ stands (less a b x) (less b a y)
+    go Less h = rw (lt-ltb a b h) refl
+    go Equal h = same h ∙ rw (tied a b x h, tied b a y (sym h)) refl
+    go Greater h = rw (le-ltb a b (omega arith), ne_eqb a b (λ e. omega arith), lt-ltb b a h) refl
 
-  rising : {b : Bool} → b ≡ body_rises q r → b ≡ rises q r
-  rising told = let one = one_kind in by_body q r one.0 (λ e. omega (arith, one.1)) told
+tells_last : (a b : ℕ) → nat_cmp a b ≡ stands (ltb a b) (ltb b a)
+tells_last a b = go (nat_cmp a b) (ranked a b (nat_cmp a b) refl)
+  where
+    go : (c : Ordering) → MatchOrdering c (a < b) (a ≡ b) (b < a) → c ≡ stands (ltb a b) (ltb b a)
+    go Less h = rw (lt-ltb a b h) refl
+    go Equal h = rw (le-ltb a b (omega arith), le-ltb b a (omega arith)) refl
+    go Greater h = rw (le-ltb a b (omega arith), lt-ltb b a h) refl
 
-  falling : {b : Bool} → b ≡ body_rises r q → b ≡ rises r q
-  falling told = let one = one_kind in by_body r q (sym one.0) (λ e. omega (arith, one.0, one.1)) told
+then_equal : (c : Ordering) → c ≡ ordering_then c Equal
+then_equal Less = refl
+then_equal Equal = refl
+then_equal Greater = refl
 
-  module _ {b : Bool} (told : b ≡ body_rises q r) where
-    pub is_before : b ≡ true → Before ≡ side_of (record_of (get_or t 0 0) t) r
-    unfolding side_of
-    is_before b = rw (← head, sym (rising told) ∙ b) refl
-
-    module _ (stays : b ≡ false) {c : Bool} (back : c ≡ body_rises r q) where
-      pub is_after : c ≡ true → After ≡ side_of (record_of (get_or t 0 0) t) r
-      unfolding side_of
-      is_after c = rw (← head, sym (rising told) ∙ stays, sym (falling back) ∙ c) refl
-
-      pub is_same : c ≡ false → Same ≡ side_of (record_of (get_or t 0 0) t) r
-      unfolding side_of
-      is_same c = rw (← head, sym (rising told) ∙ stays, sym (falling back) ∙ c) refl
+then_assoc : (c d e : Ordering) → ordering_then (ordering_then c d) e ≡ ordering_then c (ordering_then d e)
+then_assoc Less d e = refl
+then_assoc Equal d e = refl
+then_assoc Greater d e = refl
 
 module _ (q r : Record) where
-  pub lower_kind : q.kind < r.kind → Before ≡ side_of q r
-  unfolding side_of
-  lower_kind h = rw (kinds_tell q r h) refl
+  -- where the kinds differ they tell
+  pub kinds_tell : (q.kind ≡ r.kind → ⊥) → nat_cmp q.kind r.kind ≡ side_of q r
+  unfolding side_of rises
+  kinds_tell apart = then_equal (nat_cmp q.kind r.kind) ∙ tells q.kind r.kind Equal _ _ (λ e. absurd (apart e))
 
-  pub higher_kind : r.kind < q.kind → After ≡ side_of q r
-  unfolding side_of
-  higher_kind h = let p = kinds_tell r q h in rw (p, rises_asym r q p) refl
+  -- else the bodies tell, of an entry's kind
+  pub bodies_tell : q.kind ≡ r.kind → is_entry q.kind ≡ true → ordering_then (ordering_then (nat_cmp q.realm.hi r.realm.hi) (nat_cmp q.realm.lo r.realm.lo)) (nat_cmp q.id r.id) ≡ side_of q r
+  unfolding side_of less_realm
+  bodies_tell one entry =
+      let many = is_above q.kind entry in
+      let rising : body_rises q r ≡ rises q r = by_body q r one (λ e. omega arith) refl in
+      let falling : body_rises r q ≡ rises r q = by_body r q (sym one) (λ e. omega arith) refl in
+      then_assoc (nat_cmp q.realm.hi r.realm.hi) (nat_cmp q.realm.lo r.realm.lo) (nat_cmp q.id r.id)
+      ∙ tells q.realm.hi r.realm.hi _ _ _ (λ e. tells q.realm.lo r.realm.lo _ _ _ (λ f. tells_last q.id r.id))
+      ∙ (λ j. stands (rising j) (falling j))
 
   -- what a side says
-  module _ {side : Side} (told : side ≡ side_of q r) where
-    pub was_before : side ≡ Before → rises q r ≡ true
+  module _ {side : Ordering} (told : side ≡ side_of q r) where
+    pub was_before : side ≡ Less → rises q r ≡ true
     unfolding side_of
     was_before s = go (rises q r) (rises r q) (sym told ∙ s)
       where
-        go : (a b : Bool) → (if a then Before else if b then After else Same) ≡ Before → a ≡ true
+        go : (a b : Bool) → stands a b ≡ Less → a ≡ true
         go true b e = refl
-        go false true e = let z : ◌≡◌ {A = ℕ} 0 1 = cc in absurd (omega arith)
-        go false false e = let z : ◌≡◌ {A = ℕ} 0 1 = cc in absurd (omega arith)
+        go false true e = cc
+        go false false e = cc
 
-    pub was_after : side ≡ After → (rises q r ≡ false) × (rises r q ≡ true)
+    pub was_after : side ≡ Greater → (rises q r ≡ false) × (rises r q ≡ true)
     unfolding side_of
     was_after s = go (rises q r) (rises r q) (sym told ∙ s)
       where
-        go : (a b : Bool) → (if a then Before else if b then After else Same) ≡ After → (a ≡ false) × (b ≡ true)
-        go true b e = let z : ◌≡◌ {A = ℕ} 0 1 = cc in absurd (omega arith)
+        go : (a b : Bool) → stands a b ≡ Greater → (a ≡ false) × (b ≡ true)
+        go true b e = cc
         go false true e = (refl, refl)
-        go false false e = let z : ◌≡◌ {A = ℕ} 0 1 = cc in absurd (omega arith)
+        go false false e = cc
 
-    pub was_same : side ≡ Same → (rises q r ≡ false) × (rises r q ≡ false)
+    pub was_same : side ≡ Equal → (rises q r ≡ false) × (rises r q ≡ false)
     unfolding side_of
     was_same s = go (rises q r) (rises r q) (sym told ∙ s)
       where
-        go : (a b : Bool) → (if a then Before else if b then After else Same) ≡ Same → (a ≡ false) × (b ≡ false)
-        go true b e = let z : ◌≡◌ {A = ℕ} 0 1 = cc in absurd (omega arith)
-        go false true e = let z : ◌≡◌ {A = ℕ} 0 1 = cc in absurd (omega arith)
+        go : (a b : Bool) → stands a b ≡ Equal → (a ≡ false) × (b ≡ false)
+        go true b e = cc
+        go false true e = cc
         go false false e = (refl, refl)

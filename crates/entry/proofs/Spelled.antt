@@ -1,5 +1,5 @@
 -- A record in bytes: what is spelled is read again, and what was read is spelled as it stood. Assumes nothing.
-use Rattle.std.specs.Prelude.{if◌then◌else◌}
+use Rattle.std.specs.Prelude.{if◌then◌else◌, Some, Ok}
 use mathlib.Core.Path.{◌≡◌, refl, sym, ◌∙◌, ap, subst}
 use mathlib.Core.List.{List, [], ◌∷◌, ◌++◌, append_assoc}
 use mathlib.Core.Bool.{Bool, true, false}
@@ -17,7 +17,6 @@ use Rattle.words.proofs.Written.{digits_length, realm_length, number_again, Fits
 use Rattle.records.specs.Kind.{body_of, body_length, size, is_known}
 use Rattle.records.specs.Reading.{record_of, read_as, read_of}
 use Rattle.records.specs.declared.records.Record.{Record}
-use Rattle.records.specs.declared.records.Read.TheVariants.{Whole}
 use Rattle.records.proofs.Bodies.{either, full, realm_length as realms, id_length as ids, rights_length as rightses}
 use Rattle.records.proofs.Tails.{Is, sized}
 use Rattle.records.proofs.Bytewise.{first_byte}
@@ -132,13 +131,13 @@ module _ (r : Record) where
     record_back = λ j. record { kind = k; realm = realm_back j; id = id_back j; rights = rights_back j; size = sym f.sized j }
 
     -- what is spelled is read again, whatever follows it
-    pub read_back : read_of (spelled r ++ t) ≡ Whole r
+    pub read_back : read_of (spelled r ++ t) ≡ Ok (Some r)
     unfolding read_of read_as whole
     read_back =
         let l : length (spelled r ++ t) ≡ size k + length t = length-append (spelled r) t ∙ ap (λ (n : ℕ). n + length t) spelled_length in
         let m : size k ≤ length whole = omega (arith, ap length (flat t), l) in
         let z : length whole ≡ 0 → ⊥ = λ q. omega arith in
-        rw (flat t) (simp (ne_eqb _ _ z, f.known, le-ltb _ _ m) (ap Whole record_back))
+        rw (flat t) (simp (ne_eqb _ _ z, f.known, le-ltb _ _ m) (ap (λ (q : Record). Ok (Some q)) record_back))
 
 -- a record of a kind that was read fits, and is spelled as it stood
 module _ (t : List ℕ) (ht : Bytes t) (k : ℕ) (enough : size k ≤ length t) where

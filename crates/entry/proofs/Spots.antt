@@ -10,6 +10,7 @@ use native.Mathlib.Omega.{arith}
 use borrow.Author.Tests.{lt-ltb}
 use lib.ListN.{length, get_or, drop, length-append, length-drop}
 use lib.Seq.{get_or-drop, drop-drop, drop_at}
+use Rattle.std.proofs.Common.{Ordering, Less, Equal, Greater}
 use Rattle.words.specs.Test.{those}
 use Rattle.words.specs.Said.{done}
 use Rattle.words.specs.Number.{Bytes}
@@ -26,8 +27,6 @@ use Rattle.entry.specs.Spelling.{spelled, spell}
 use Rattle.entry.specs.NewList.{records_in}
 use Rattle.entry.specs.Plan.{spot_for}
 use Rattle.entry.specs.Spot.{side_of}
-use Rattle.entry.specs.declared.spot.Side.{Side}
-use Rattle.entry.specs.declared.spot.Side.TheVariants.{Before, Same, After}
 use Rattle.entry.specs.declared.spot.Spot.{Spot}
 use Rattle.entry.proofs.Spelled.{Fitting, spelled_length, read_back}
 use Rattle.entry.proofs.Cuts.{spelled_size, sized_some, spelled_whole}
@@ -184,7 +183,7 @@ module _ {list : List ℕ} {r : Record} {at : ℕ} (reached : Reached list r at)
       pub goes_on : (0 < m) × (at + m ≤ length list)
       goes_on = rw (sized ∙ size_it) (sized_some it fits.0, past_inside list at it others tail_is fits.0)
 
-      pub goes : {side : Side} → side ≡ side_of (record_of (get_or (drop at list) 0 0) (drop at list)) r → side ≡ Before → Reached list r (at + m)
+      pub goes : {side : Ordering} → side ≡ side_of (record_of (get_or (drop at list) 0 0) (drop at list)) r → side ≡ Less → Reached list r (at + m)
       unfolding InOrder Each it others
       goes told s =
           let p = ap (λ (q : Record). rises q r) (sym read_it) ∙ was_before (record_of (get_or (drop at list) 0 0) (drop at list)) r told s in
@@ -203,7 +202,7 @@ module _ {list : List ℕ} {r : Record} {at : ℕ} (reached : Reached list r at)
           })
 
     -- or it stops there, with the record or without
-    module _ {side : Side} (told : side ≡ side_of (record_of (get_or (drop at list) 0 0) (drop at list)) r) (entry : 1 < r.kind) where
+    module _ {side : Ordering} (told : side ≡ side_of (record_of (get_or (drop at list) 0 0) (drop at list)) r) (entry : 1 < r.kind) where
       abbrev q : Record
       q = record_of (get_or (drop at list) 0 0) (drop at list)
 
@@ -222,8 +221,8 @@ module _ {list : List ℕ} {r : Record} {at : ℕ} (reached : Reached list r at)
           go true = refl
           go false = sym (ap length (append-nil (spelled it)) ∙ spelled_size it fits.0)
 
-      pub stops_after : side ≡ After → spotted at 0 ≡ spot_for list r
+      pub stops_after : side ≡ Greater → spotted at 0 ≡ spot_for list r
       stops_after s = let w = was_after q r told s in stops 0 w.0 true w.1 refl
 
-      pub stops_same : side ≡ Same → {m : ℕ} → m ≡ size (get_or (drop at list) 0 0) → spotted at m ≡ spot_for list r
+      pub stops_same : side ≡ Equal → {m : ℕ} → m ≡ size (get_or (drop at list) 0 0) → spotted at m ≡ spot_for list r
       stops_same s {m} sized = let w = was_same q r told s in stops m w.0 false w.1 (sized ∙ size_it)

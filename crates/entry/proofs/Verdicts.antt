@@ -1,5 +1,5 @@
 -- The verdict on a list with a record put or dropped, told from the old list. Assumes nothing.
-use Rattle.std.specs.Prelude.{if◌then◌else◌}
+use Rattle.std.specs.Prelude.{if◌then◌else◌, None, Some}
 use mathlib.Core.Path.{◌≡◌, refl, sym, ◌∙◌, ap, subst}
 use mathlib.Core.List.{List, [], ◌∷◌, ◌++◌}
 use mathlib.Core.Bool.{Bool, true, false, not, ◌&&◌}
@@ -12,7 +12,9 @@ use lib.ListN.{length}
 use Rattle.words.specs.Said.{done, refused, and_then}
 use Rattle.words.specs.Number.{Bytes}
 use Rattle.words.specs.Realm.{zero_realm, realm_at}
+use Rattle.words.specs.Refusal.{number_of}
 use Rattle.words.specs.declared.realm.Realm.{Realm}
+use Rattle.words.specs.declared.refusal.Fault.TheVariants.{RightsAbove63, ForbiddenRealm, ObjectMissing, MaskMissing, ControlMissing}
 use Rattle.words.proofs.Tests.{Each, each_so, each_append, those_each, those_pass, any_alike, any_map}
 use Rattle.records.specs.Kind.{body, bodies, body_of, wants_mask}
 use Rattle.records.specs.Standing.{rises, is_forbidden, lacks_control}
@@ -46,14 +48,14 @@ seen_spell rs f =
 -- a record's own refusals, then the end's
 put_ladder : (at n : ℕ) (a b c d e : Bool)
     → (if a then refused 10 (0 ∷ []) else
-    and_then (refused_at at (if b then 14 else if c then 16 else 0)) (refused_at n (if d then 18 else if e then 19 else 0)))
+    and_then (refused_at at (if b then Some RightsAbove63 else if c then Some ForbiddenRealm else None)) (refused_at n (if d then Some MaskMissing else if e then Some ControlMissing else None)))
     ≡ (if a then refused 10 (0 ∷ []) else
     if b then refused 14 (at ∷ []) else
     if c then refused 16 (at ∷ []) else
     if d then refused 18 (n ∷ []) else
     if e then refused 19 (n ∷ []) else
     done [])
-unfolding refused_at and_then
+unfolding refused_at and_then number_of
 put_ladder at n true b c d e = refl
 put_ladder at n false true c d e = refl
 put_ladder at n false false true d e = refl
@@ -62,8 +64,8 @@ put_ladder at n false false false false true = refl
 put_ladder at n false false false false false = refl
 
 drop_ladder : (n : ℕ) (a b : Bool)
-    → and_then (done []) (refused_at n (if a then 17 else if b then 18 else 0)) ≡ (if a then refused 17 (n ∷ []) else if b then refused 18 (n ∷ []) else done [])
-unfolding refused_at and_then
+    → and_then (done []) (refused_at n (if a then Some ObjectMissing else if b then Some MaskMissing else None)) ≡ (if a then refused 17 (n ∷ []) else if b then refused 18 (n ∷ []) else done [])
+unfolding refused_at and_then number_of
 drop_ladder n true b = refl
 drop_ladder n false true = refl
 drop_ladder n false false = refl

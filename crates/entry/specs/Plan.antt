@@ -1,7 +1,9 @@
 -- What an edit comes to, before a byte is written.
-use Rattle.std.specs.Prelude.{◌≡◌, List, [], ◌∷◌, not, ℕ, length, if◌then◌else◌}
+use Rattle.std.specs.Prelude.{◌≡◌, List, [], ◌∷◌, not, ℕ, length, if◌then◌else◌, Result, Ok}
 use Rattle.words.specs.Test.{those}
-use Rattle.words.specs.Said.{Said, done, refused, and_then}
+use Rattle.words.specs.Said.{Said, refused, and_then}
+use Rattle.words.specs.Refusal.{says_by}
+use Rattle.words.specs.declared.refusal.Refusal.{Refusal}
 use Rattle.records.specs.Kind.{size}
 use Rattle.records.specs.Standing.{rises}
 use Rattle.list.specs.Checking.{check_says}
@@ -12,7 +14,6 @@ use Rattle.entry.specs.NewList.{records_in, same_entry, putting, dropping, has_e
 use Rattle.entry.specs.declared.entries.Entry.{Entry}
 use Rattle.entry.specs.declared.spot.Spot.{Spot}
 use Rattle.entry.specs.declared.planning.Plan.{Plan}
-use Rattle.entry.specs.declared.planning.Plan.TheVariants.{Splice, Refused, RefusedAt}
 
 -- the old list's own refusals come first, then a kind outside 2 to 11 (12, place 0), then 20, then the new list's refusals
 module _ (list : List ℕ) (entry : Entry) where
@@ -36,16 +37,22 @@ spot_for list r = record {
   size = length (spell (those (same_entry r) (records_in list)));
 }
 
--- what each plan says by 01's numbers; of a splice the place, how many bytes give way there, how many come, and the new list's length
-unfoldable pub plan_says : Plan → Said
-plan_says (Splice spot width total) = done (spot.at ∷ spot.size ∷ width ∷ total ∷ [])
-plan_says (Refused number) = refused number []
-plan_says (RefusedAt number place) = refused number (place ∷ [])
+-- so many bytes come to a spot; the new list's length
+unfoldable pub plan_at : Spot → ℕ → ℕ → Plan
+plan_at spot width total = record { spot = spot; size = width; total = total }
+
+-- what a plan says: the place, how many bytes give way there, how many come, and the new list's length
+unfoldable pub plan_values : Plan → List ℕ
+plan_values plan = plan.spot.at ∷ plan.spot.size ∷ plan.size ∷ plan.total ∷ []
+
+-- what planning says by 01's numbers
+abbrev pub plan_says : Result Plan Refusal → Said
+plan_says = says_by plan_values
 
 -- planning a put
-pub record PlansPut (list : List ℕ) (entry : Entry) (plan : Plan) : Type 0 where
-  pub answer : plan_says plan ≡ and_then (put_judged list entry) (plan_says (Splice (spot_for list (record_for entry)) (size entry.kind) (length (putting list entry))))
+pub record PlansPut (list : List ℕ) (entry : Entry) (r : Result Plan Refusal) : Type 0 where
+  pub answer : plan_says r ≡ and_then (put_judged list entry) (plan_says (Ok (plan_at (spot_for list (record_for entry)) (size entry.kind) (length (putting list entry)))))
 
 -- planning a drop
-pub record PlansDrop (list : List ℕ) (entry : Entry) (plan : Plan) : Type 0 where
-  pub answer : plan_says plan ≡ and_then (drop_judged list entry) (plan_says (Splice (spot_for list (record_for entry)) 0 (length (dropping list entry))))
+pub record PlansDrop (list : List ℕ) (entry : Entry) (r : Result Plan Refusal) : Type 0 where
+  pub answer : plan_says r ≡ and_then (drop_judged list entry) (plan_says (Ok (plan_at (spot_for list (record_for entry)) 0 (length (dropping list entry)))))

@@ -1,16 +1,20 @@
 -- Contracts of the crate's own functions: an entry's record, where it stands by another, and the verdict on the new list without it being
 -- there yet.
-use Rattle.std.specs.Prelude.{◌≡◌, List, [], ◌∷◌, Bool, true, not, ◌&&◌, ℕ, ◌^◌, ◌≤◌, ◌<◌, eqb, leb, ltb, if◌then◌else◌}
-use Rattle.words.specs.Said.{Said, done, refused}
+use Rattle.std.specs.Prelude.{◌≡◌, List, [], ◌∷◌, Bool, true, not, ◌&&◌, ℕ, ◌^◌, ◌≤◌, ◌<◌, eqb, leb, ltb, if◌then◌else◌, Result, IfOk}
+use Rattle.std.specs.declared.cmp.Ordering.{Ordering}
+use Rattle.std.specs.declared.cmp.Ordering.TheVariants.{Less, Equal, Greater}
+use Rattle.words.specs.Said.{Said, done, refused, and_then}
+use Rattle.words.specs.Refusal.{says_by}
+use Rattle.words.specs.declared.refusal.Refusal.{Refusal}
 use Rattle.words.specs.Realm.{realm_at}
 use Rattle.records.specs.Kind.{size, wants_mask}
 use Rattle.records.specs.Standing.{rises, is_forbidden, lacks_control}
-use Rattle.list.specs.Checking.{records, has}
+use Rattle.list.specs.Checking.{records, has, check_says}
 use Rattle.records.specs.declared.records.Record.{Record}
 use Rattle.entry.specs.Entry.{is_entry, record_for}
 use Rattle.entry.specs.declared.entries.Entry.{Entry}
-use Rattle.entry.specs.declared.spot.Side.{Side}
-use Rattle.entry.specs.declared.spot.Side.TheVariants.{Before, Same, After}
+use Rattle.entry.specs.declared.spot.Spot.{Spot}
+use Rattle.entry.specs.Plan.{spot_for}
 
 -- what the numbers of an entry always are: a realm of sixteen bytes, an id of four
 pub record InWidth (entry : Entry) : Type 0 where
@@ -26,9 +30,14 @@ pub record Says (entry : Entry) (r : Record) : Type 0 where
   pub short : r.size ≤ 22
   pub numbers : InWidth entry
 
+-- an entry's record and its spot, where the old list passes and the kind is an entry's
+pub record Places (list : List ℕ) (entry : Entry) (r : Result (Record × Spot) Refusal) : Type 0 where
+  pub answer : says_by (λ placed. []) r ≡ and_then (check_says list) (if not (is_entry entry.kind) then refused 12 (0 ∷ []) else done [])
+  pub placed : IfOk r (λ placed. Says entry placed.0 × (placed.1 ≡ spot_for list placed.0))
+
 -- where a record stands by another
-unfoldable pub side_of : Record → Record → Side
-side_of q r = if rises q r then Before else if rises r q then After else Same
+unfoldable pub side_of : Record → Record → Ordering
+side_of q r = if rises q r then Less else if rises r q then Greater else Equal
 
 unfoldable pub has_mask : List ℕ → Bool
 has_mask list = has (λ q. eqb q.kind 5) (records list)

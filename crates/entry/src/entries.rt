@@ -1,6 +1,5 @@
 // The entry of an edit, and the record that it says.
-ghost use Rattle.std.specs.Prelude.{◌≡◌, true, ◌≤◌, eqb, if◌then◌else◌};
-ghost use Rattle.words.specs.Realm.{zero_realm};
+ghost use Rattle.std.specs.Prelude.{◌≡◌, true, ◌≤◌};
 ghost use Rattle.records.specs.Kind.{body_of};
 ghost use Rattle.entry.specs.Entry.{is_entry};
 ghost use Rattle.entry.specs.Spot.{Says};
@@ -19,6 +18,7 @@ pub struct Entry {
 }
 
 // The kinds 2 to 11.
+#[tactic(auto, unfolding(crate::specs::Entry::is_entry))]
 pub(crate) fn is_entry(kind: u8) -> bool
     ensures { result ≡ is_entry kind }
 {
@@ -26,49 +26,29 @@ pub(crate) fn is_entry(kind: u8) -> bool
 }
 
 // How many bytes of a body are its realm.
+#[tactic(auto, using(crate::proofs::Lengths::no_realm, crate::proofs::Lengths::a_realm))]
 pub(crate) fn realm_length(kind: u8) -> usize
     requires { is_entry kind ≡ true }
     ensures { (result ≡ (body_of kind).realm) × (result ≤ 16) }
 {
-    if kind < FOREIGN_USER {
-        return 0;
-    }
-    16
+    if kind < FOREIGN_USER { 0 } else { 16 }
 }
 
 // How many are its id.
+#[tactic(auto, using(crate::proofs::Lengths::no_id_yet, crate::proofs::Lengths::no_id_more, crate::proofs::Lengths::an_id))]
 pub(crate) fn id_length(kind: u8) -> usize
     requires { is_entry kind ≡ true }
     ensures { (result ≡ (body_of kind).id) × (result ≤ 4) }
 {
-    if kind < USER {
-        return 0;
+    if kind < USER || FOREIGN_GROUP < kind {
+        0
+    } else {
+        4
     }
-    if FOREIGN_GROUP < kind {
-        return 0;
-    }
-    4
-}
-
-fn realm_if(width: usize, realm: Realm) -> Realm
-    ensures { result ≡ (if eqb width 0 then zero_realm else realm) }
-{
-    if width == 0 {
-        return Realm { hi: 0, lo: 0 };
-    }
-    realm
-}
-
-fn id_if(width: usize, id: u32) -> u32
-    ensures { result ≡ (if eqb width 0 then 0 else id) }
-{
-    if width == 0 {
-        return 0;
-    }
-    id
 }
 
 // The record that an entry says.
+#[tactic(auto, unfolding(crate::specs::Entry::record_for, words::specs::Realm::zero_realm), using(crate::proofs::Lengths::size_is))]
 pub(crate) fn record_of(entry: Entry) -> Record
     requires { is_entry entry.kind ≡ true }
     ensures { Says entry result }
@@ -77,9 +57,9 @@ pub(crate) fn record_of(entry: Entry) -> Record
     let realm = realm_length(kind);
     let id = id_length(kind);
     Record {
-        kind: kind,
-        realm: realm_if(realm, entry.realm),
-        id: id_if(id, entry.id),
+        kind,
+        realm: if realm == 0 { Realm::ZERO } else { entry.realm },
+        id: if id == 0 { 0 } else { entry.id },
         rights: entry.rights,
         size: 2 + realm + id,
     }

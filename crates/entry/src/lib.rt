@@ -4,9 +4,9 @@
 mod entries;
 mod judging;
 mod planning;
-pub mod refusal;
 mod spot;
 
 pub use entries::Entry;
 pub use planning::{Plan, plan_drop, plan_put};
 pub use spot::Spot;
+pub use words::{Fault, Refusal};

@@ -9,19 +9,13 @@ ghost use Rattle.entry.specs.Plan.{spot_for};
 ghost use Rattle.entry.specs.Spot.{side_of, has_mask};
 
 use crate::entries::{Entry, id_length, realm_length, record_of};
+use list::Record;
 use list::kind::MASK_OBJ;
-use list::{Record, bodies_in_order};
-use words::{Realm, number32, realm_at};
+use std::cmp::Ordering;
+use words::{Realm, number_at, realm_at};
 
 // The record of the default realm, which comes before every entry.
 const HEADER: usize = 17;
-
-#[derive(Clone, Copy)]
-pub enum Side {
-    Before,
-    Same,
-    After,
-}
 
 // A place, and the length of the record there; of no length where the record is not in the list.
 #[derive(Clone, Copy)]
@@ -31,6 +25,7 @@ pub struct Spot {
 }
 
 // The record that a tail begins with.
+#[tactic(auto, using(records::proofs::Bodies::some_size, crate::proofs::Lengths::size_is, crate::proofs::Lengths::head_is))]
 fn head_of(tail: &[u8]) -> Record
     requires { (is_entry (get_or tail.now 0 0) ≡ true) × (size (get_or tail.now 0 0) ≤ length tail.now) }
     ensures { result ≡ record_of (get_or tail.now 0 0) tail.now }
@@ -39,14 +34,15 @@ fn head_of(tail: &[u8]) -> Record
     let id_at = 1 + realm_length(kind);
     let rights_at = id_at + id_length(kind);
     record_of(Entry {
-        kind: kind,
+        kind,
         realm: realm_at(tail, 1),
-        id: number32(tail, id_at),
+        id: number_at(tail, id_at),
         rights: tail[rights_at],
     })
 }
 
 // A record's length.
+#[tactic(auto, using(crate::proofs::Lengths::size_is))]
 fn size_of(kind: u8) -> usize
     requires { is_entry kind ≡ true }
     ensures { result ≡ size kind }
@@ -56,25 +52,17 @@ fn size_of(kind: u8) -> usize
 
 // Where the record that a tail begins with stands by r. Where the kinds differ they tell, and no more is read; else the bodies tell,
 // since no entry is of kind 1.
-fn side_of(tail: &[u8], r: Record) -> Side
+#[tactic(auto, unfolding(records::specs::Reading::record_of), using(records::proofs::Bodies::some_size, crate::proofs::Sides::kinds_tell, crate::proofs::Sides::bodies_tell))]
+fn side_of(tail: &[u8], r: Record) -> Ordering
     requires { (is_entry (get_or tail.now 0 0) ≡ true) × (size (get_or tail.now 0 0) ≤ length tail.now) }
     ensures { result ≡ side_of (record_of (get_or tail.now 0 0) tail.now) r }
 {
     let kind = tail[0];
-    if kind < r.kind {
-        return Side::Before;
-    }
-    if r.kind < kind {
-        return Side::After;
+    if kind != r.kind {
+        return kind.cmp(&r.kind);
     }
     let q = head_of(tail);
-    if bodies_in_order(q, r) {
-        return Side::Before;
-    }
-    if bodies_in_order(r, q) {
-        return Side::After;
-    }
-    Side::Same
+    (q.realm, q.id).cmp(&(r.realm, r.id))
 }
 
 // The spot of r in a list that passed.
@@ -85,21 +73,17 @@ pub(crate) fn find(list: &[u8], r: Record) -> Spot
     let mut at = HEADER;
     while at < list.len() {
         match side_of(&list[at..], r) {
-            Side::Before => {
-                at += size_of(list[at]);
-            }
-            Side::Same => {
+            Ordering::Less => at += size_of(list[at]),
+            Ordering::Equal => {
                 return Spot {
-                    at: at,
+                    at,
                     size: size_of(list[at]),
                 };
             }
-            Side::After => {
-                return Spot { at: at, size: 0 };
-            }
+            Ordering::Greater => return Spot { at, size: 0 },
         }
     }
-    Spot { at: at, size: 0 }
+    Spot { at, size: 0 }
 }
 
 // A list that passed has a mask_obj.
@@ -109,11 +93,10 @@ pub(crate) fn has_mask(list: &[u8]) -> bool
 {
     let mask = Record {
         kind: MASK_OBJ,
-        realm: Realm { hi: 0, lo: 0 },
+        realm: Realm::ZERO,
         id: 0,
         rights: 0,
         size: 2,
     };
-    let spot = find(list, mask);
-    0 < spot.size
+    0 < find(list, mask).size
 }

@@ -1,49 +1,50 @@
 -- Two outcomes that meet a statement are equal. Assumes nothing.
-use mathlib.Core.Path.{◌≡◌, refl, sym, ◌∙◌}
+use mathlib.Core.Path.{◌≡◌, refl, sym, ◌∙◌, ap}
 use mathlib.Core.List.{List, [], ◌∷◌}
 use mathlib.Core.Bool.{Bool}
 use Prim.Native.Nat.{ℕ}
 use lib.ListN.{get_or}
+use Rattle.std.specs.Prelude.{Result, Ok, Err}
 use Rattle.words.specs.Said.{Said, done, refused}
-use Rattle.words.proofs.Determined.{same_answer}
+use Rattle.words.specs.Refusal.{refusal_says, says_by}
+use Rattle.words.specs.declared.refusal.Refusal.{Refusal}
+use Rattle.words.proofs.Refusals.{same_says, same_plain}
 use Rattle.evaluate.specs.Asking.{TellsGroup}
-use Rattle.evaluate.specs.Evaluation.{Decided, bare, evaluated_as, verdict_says, Checks, Evaluates}
+use Rattle.evaluate.specs.Evaluation.{Decided, bare, evaluated_as, Checks, Evaluates}
 use Rattle.evaluate.specs.declared.asking.Caller.{Caller}
 use Rattle.evaluate.specs.declared.asking.File.{File}
-use Rattle.evaluate.specs.declared.evaluation.Evaluated.{Evaluated}
-use Rattle.evaluate.specs.declared.evaluation.Evaluated.TheVariants.{Rights, Refused, RefusedAt}
-use Rattle.evaluate.specs.declared.verdict.Verdict.{Verdict}
-use Rattle.evaluate.specs.declared.verdict.Verdict.TheVariants.{Fine, Refused as Faulty}
+use Rattle.evaluate.specs.declared.evaluation.Found.{Found}
 
 pub is_in_group_determined : (caller : Caller) (groups : List ℕ) (id : ℕ) (r r' : Bool) → TellsGroup caller groups id r → TellsGroup caller groups id r' → r ≡ r'
 is_in_group_determined caller groups id r r' p q = p.answer ∙ sym q.answer
 
--- the verdict that says what was said
-verdict : Said → Verdict
-verdict (done values) = Fine
-verdict (refused number values) = Faulty number (get_or values 0 0)
+pub check_list_determined : (list : List ℕ) (r r' : Result (Unit {0}) Refusal) → Checks list r → Checks list r' → r ≡ r'
+check_list_determined list r r' p q = same_plain r r' p.answer q.answer
 
-verdict_of : (r : Verdict) → verdict (verdict_says r) ≡ r
-unfolding verdict verdict_says
-verdict_of Fine = refl
-verdict_of (Faulty number place) = refl
+-- what is decided, with the part as two more values
+whole : Decided → Said
+whole d = with_part d.says
+  where
+    with_part : Said → Said
+    with_part (done values) = done (d.start ∷ d.size ∷ values)
+    with_part (refused number values) = refused number values
 
-pub check_list_determined : (list : List ℕ) (r r' : Verdict) → Checks list r → Checks list r' → r ≡ r'
-check_list_determined list r r' p q = same_answer verdict_says verdict verdict_of r r' p.answer q.answer
+values : Found → List ℕ
+values found = found.start ∷ found.size ∷ found.rights ∷ []
 
--- the evaluation that says it, with a part
-evaluated : Said → ℕ → ℕ → Evaluated
-evaluated (done values) start size = Rights (get_or values 0 0) start size
-evaluated (refused number []) start size = Refused number
-evaluated (refused number (place ∷ more)) start size = RefusedAt number place
+back : List ℕ → Found
+back given = record { rights = get_or given 2 0; start = get_or given 0 0; size = get_or given 1 0 }
 
-evaluated_of : (r : Evaluated) → evaluated (evaluated_as r).says (evaluated_as r).start (evaluated_as r).size ≡ r
-unfolding evaluated evaluated_as bare
-evaluated_of (Rights rights start size) = refl
-evaluated_of (Refused number) = refl
-evaluated_of (RefusedAt number place) = refl
+inverse : (found : Found) → back (values found) ≡ found
+unfolding back values
+inverse found = refl
 
-pub evaluate_determined : (list groups : List ℕ) (caller : Caller) (file : File) (r r' : Evaluated)
+same_values : (r : Result Found Refusal) → says_by values r ≡ whole (evaluated_as r)
+unfolding says_by values whole evaluated_as bare refusal_says
+same_values (Ok found) = refl
+same_values (Err refusal) = refl
+
+pub evaluate_determined : (list groups : List ℕ) (caller : Caller) (file : File) (r r' : Result Found Refusal)
     → Evaluates list groups caller file r → Evaluates list groups caller file r' → r ≡ r'
 evaluate_determined list groups caller file r r' p q =
-    same_answer evaluated_as (λ (d : Decided). evaluated d.says d.start d.size) evaluated_of r r' p.answer q.answer
+    same_says values back inverse r r' (same_values r ∙ ap whole p.answer) (same_values r' ∙ ap whole q.answer)

@@ -3,9 +3,12 @@ use mathlib.Core.Path.{◌≡◌, refl, sym, ◌∙◌, ap, subst}
 use mathlib.Core.List.{List, [], ◌∷◌, foldl}
 use mathlib.Core.Bool.{Bool, and-false}
 use Prim.Native.Nat.{ℕ, ◌<◌}
-use native.Mathlib.Omega.{arith}
 use Rattle.words.specs.Test.{those}
-use Rattle.words.specs.Said.{done, refused}
+use Rattle.std.specs.Prelude.{Result, Ok, Err}
+use Rattle.std.specs.Result.{IsErrAnd}
+use Rattle.words.specs.Said.{done}
+use Rattle.words.specs.Refusal.{refusal_says, says_by}
+use Rattle.words.specs.declared.refusal.Refusal.{Refusal}
 use Rattle.words.specs.Realm.{realm_at}
 use Rattle.words.proofs.Tests.{Each}
 use Rattle.list.specs.Fault.{no_record}
@@ -13,15 +16,11 @@ use Rattle.list.specs.Checking.{Placed, placed, records, check_says}
 use Rattle.records.specs.declared.records.Record.{Record}
 use Rattle.evaluate.specs.Asking.{of_default_realm}
 use Rattle.evaluate.specs.Steps.{Step, masked, unmasked, here, abroad, steps, serving, served_from, served, union, is_mask, masking, first}
-use Rattle.evaluate.specs.Evaluation.{unless_refused, by_step, served_in, list_gives, evaluated_as, verdict_says}
-use Rattle.evaluate.specs.Tally.{no_tally, tallying, allowed, tally_in, pass_says, Passes}
+use Rattle.evaluate.specs.Evaluation.{unless_refused, by_step, served_in, list_gives, evaluated_as, Checks}
+use Rattle.evaluate.specs.Tally.{no_tally, tallying, allowed, tally_in, Passes}
 use Rattle.evaluate.specs.declared.asking.Caller.{Caller}
 use Rattle.evaluate.specs.declared.asking.File.{File}
-use Rattle.evaluate.specs.declared.evaluation.Evaluated.TheVariants.{Rights, RefusedAt as Rejected}
-use Rattle.evaluate.specs.declared.pass.Passed.{Passed}
-use Rattle.evaluate.specs.declared.pass.Passed.TheVariants.{Refused, Fine}
 use Rattle.evaluate.specs.declared.tally.Tally.{Tally}
-use Rattle.evaluate.specs.declared.verdict.Verdict.TheVariants.{Fine as Passable, Refused as Faulty}
 use Rattle.evaluate.proofs.Counting.{as_tally, Untaken, tally_of, all_counted}
 use Rattle.evaluate.proofs.Masking.{all_allowed}
 
@@ -57,40 +56,45 @@ pub dir_unasked : (list groups : List ℕ) (caller : Caller) (file : File) (dir 
 unfolding list_gives served_in steps here abroad
 dir_unasked list groups caller file dir = refl
 
+-- a refusal that is handed on
+pub handed_on : {A : Type 0} (r : Result A Refusal) (refusal : Refusal) → IsErrAnd r (λ given. given ≡ refusal) → r ≡ Err refusal
+handed_on (Ok a) refusal h = absurd h
+handed_on (Err given) refusal h = ap Err h
+
 module _ {l groups : List ℕ} {caller : Caller} {file : File} where
   -- how a pass ends
-  pub ends_refused : {number place : ℕ} → check_says l ≡ refused number (place ∷ []) → Passes l groups caller file (Refused number place)
-  unfolding pass_says
-  ends_refused q = record { check = sym q; tally = λ t e. let z : ◌≡◌ {A = ℕ} 0 1 = cc in absurd (omega arith) }
+  pub ends_refused : {refusal : Refusal} → check_says l ≡ refusal_says refusal → Passes l groups caller file (Err refusal)
+  unfolding says_by
+  ends_refused q = record { check = sym q; tally = λ t e. cc }
 
   pub ends_fine : {t : Tally} (home : Bool) → home ≡ of_default_realm caller (realm_at 1 l) → check_says l ≡ done []
-      → t ≡ foldl (tallying (steps home groups caller file)) no_tally (records l) → Passes l groups caller file (Fine t)
-  unfolding pass_says tally_in
+      → t ≡ foldl (tallying (steps home groups caller file)) no_tally (records l) → Passes l groups caller file (Ok t)
+  unfolding says_by tally_in
   ends_fine {t = t} home h q e = record { check = sym q; tally = λ u p. let i : t ≡ u = cc in rw (← h) (sym i ∙ e) }
 
   -- what follows from a pass
-  module _ {r : Passed} (passes : Passes l groups caller file r) where
-    refuses : {number place : ℕ} → r ≡ Refused number place → check_says l ≡ refused number (place ∷ [])
-    unfolding pass_says
+  module _ {r : Result Tally Refusal} (passes : Passes l groups caller file r) where
+    refuses : {refusal : Refusal} → r ≡ Err refusal → check_says l ≡ refusal_says refusal
+    unfolding says_by
     refuses q = sym passes.check ∙ rw q refl
 
-    fine : {t : Tally} → r ≡ Fine t → check_says l ≡ done []
-    unfolding pass_says
+    fine : {t : Tally} → r ≡ Ok t → check_says l ≡ done []
+    unfolding says_by
     fine q = sym passes.check ∙ rw q refl
 
-    pub checked_refused : {number place : ℕ} → r ≡ Refused number place → verdict_says (Faulty number place) ≡ check_says l
-    unfolding verdict_says
-    checked_refused q = sym (refuses q)
+    pub checked_refused : {refusal : Refusal} → r ≡ Err refusal → Checks l (Err refusal)
+    unfolding says_by
+    checked_refused q = record { answer = sym (refuses q) }
 
-    pub checked_fine : {t : Tally} → r ≡ Fine t → verdict_says Passable ≡ check_says l
-    unfolding verdict_says
-    checked_fine q = sym (fine q)
+    pub checked_fine : {t : Tally} → r ≡ Ok t → Checks l (Ok tt)
+    unfolding says_by
+    checked_fine q = record { answer = sym (fine q) }
 
-    pub evaluated_refused : {number place : ℕ} → r ≡ Refused number place → evaluated_as (Rejected number place) ≡ list_gives l groups caller file
-    unfolding evaluated_as list_gives unless_refused
+    pub evaluated_refused : {refusal : Refusal} → r ≡ Err refusal → evaluated_as (Err refusal) ≡ list_gives l groups caller file
+    unfolding evaluated_as list_gives unless_refused refusal_says
     evaluated_refused q = rw (refuses q)
 
-    pub evaluated_fine : {t : Tally} {rights : ℕ} → r ≡ Fine t → rights ≡ allowed t → t.rights < 256
-        → evaluated_as (Rights rights t.start t.size) ≡ list_gives l groups caller file
+    pub evaluated_fine : {t : Tally} {rights : ℕ} → r ≡ Ok t → rights ≡ allowed t → t.rights < 256
+        → evaluated_as (Ok (record { rights = rights; start = t.start; size = t.size })) ≡ list_gives l groups caller file
     unfolding evaluated_as list_gives unless_refused served_in tally_in
     evaluated_fine {t = t} q a h = rw (fine q, a) (decides (of_default_realm caller (realm_at 1 l)) groups caller file (records l) t (passes.tally t q) h)

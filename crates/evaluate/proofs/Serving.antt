@@ -1,12 +1,13 @@
 -- Which step a record serves, by its kind. Assumes nothing.
 use Rattle.std.specs.Prelude.{if◌then◌else◌}
-use mathlib.Core.Path.{◌≡◌}
+use mathlib.Core.Path.{◌≡◌, refl, sym, ◌∙◌}
 use mathlib.Core.List.{List}
-use mathlib.Core.Bool.{true, false, and-true, and-false, or-false}
+use mathlib.Core.Bool.{Bool, true, false, not, ◌&&◌, and-true, and-false, or-false}
 use Prim.Native.Nat.{ℕ}
 use borrow.Author.Tests.{ne_eqb}
 use lib.Dec.{eqb}
 use Rattle.words.specs.Realm.{same_realm}
+use Rattle.words.specs.declared.realm.Realm.{Realm}
 use Rattle.records.specs.declared.records.Record.{Record}
 use Rattle.evaluate.specs.Asking.{in_group}
 use Rattle.evaluate.specs.Steps.{masked, unmasked, here, abroad, steps}
@@ -60,3 +61,20 @@ module _ (groups : List ℕ) (caller : Caller) (file : File) (r : Record) where
     pub abroad_else : (r.kind ≡ 9 → ⊥) → (r.kind ≡ 10 → ⊥) → (r.kind ≡ 6 → ⊥) → (if eqb r.kind 11 then 5 else 8) ≡ step_from 1 (steps false groups caller file) r
     unfolding step_from steps here abroad masked unmasked
     abroad_else p q k = simp (ne_eqb r.kind 9 p, ne_eqb r.kind 10 q, ne_eqb r.kind 6 k, same, and-true)
+
+-- of realms that were asked whether they differ
+pub other : (a b : Realm) {t : Bool} → t ≡ not (eqb a.hi b.hi && eqb a.lo b.lo) → t ≡ true → same_realm a b ≡ false
+unfolding same_realm
+other a b told q = go (same_realm a b) (sym told ∙ q)
+  where
+    go : (s : Bool) → not s ≡ true → s ≡ false
+    go true p = sym p
+    go false p = refl
+
+pub same : (a b : Realm) {t : Bool} → t ≡ not (eqb a.hi b.hi && eqb a.lo b.lo) → t ≡ false → same_realm a b ≡ true
+unfolding same_realm
+same a b told q = go (same_realm a b) (sym told ∙ q)
+  where
+    go : (s : Bool) → not s ≡ false → s ≡ true
+    go true p = refl
+    go false p = sym p

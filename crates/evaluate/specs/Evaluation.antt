@@ -1,16 +1,15 @@
 -- Checking a list, and evaluating it for a caller and a file.
-use Rattle.std.specs.Prelude.{◌≡◌, List, [], ◌∷◌, ℕ, ltb, length, if◌then◌else◌}
+use Rattle.std.specs.Prelude.{◌≡◌, List, [], ◌∷◌, ℕ, ltb, length, if◌then◌else◌, Result, Ok, Err}
 use Rattle.words.specs.Said.{Said, done, refused}
+use Rattle.words.specs.Refusal.{refusal_says, plain_says}
+use Rattle.words.specs.declared.refusal.Refusal.{Refusal}
 use Rattle.words.specs.Realm.{realm_at}
 use Rattle.list.specs.Checking.{Placed, records, check_says}
 use Rattle.evaluate.specs.Asking.{of_default_realm}
 use Rattle.evaluate.specs.Steps.{steps, Served, served, rights_by, first}
 use Rattle.evaluate.specs.declared.asking.Caller.{Caller}
 use Rattle.evaluate.specs.declared.asking.File.{File}
-use Rattle.evaluate.specs.declared.evaluation.Evaluated.{Evaluated}
-use Rattle.evaluate.specs.declared.evaluation.Evaluated.TheVariants.{Rights, Refused, RefusedAt}
-use Rattle.evaluate.specs.declared.verdict.Verdict.{Verdict}
-use Rattle.evaluate.specs.declared.verdict.Verdict.TheVariants.{Fine, Refused as Faulty}
+use Rattle.evaluate.specs.declared.evaluation.Found.{Found}
 
 -- what is said, and the deciding record by its place and length
 pub record Decided : Type 0 where
@@ -48,20 +47,14 @@ unfoldable pub evaluation : List ℕ → List ℕ → Caller → File → Decide
 evaluation list groups caller file = unless_too_many groups (list_gives list groups caller file)
 
 -- what each evaluation says by 01's numbers
-unfoldable pub evaluated_as : Evaluated → Decided
-evaluated_as (Rights rights start size) = record { says = done (rights ∷ []); start = start; size = size }
-evaluated_as (Refused number) = bare (refused number [])
-evaluated_as (RefusedAt number place) = bare (refused number (place ∷ []))
-
--- what each verdict says by 01's numbers
-unfoldable pub verdict_says : Verdict → Said
-verdict_says Fine = done []
-verdict_says (Faulty number place) = refused number (place ∷ [])
+unfoldable pub evaluated_as : Result Found Refusal → Decided
+evaluated_as (Ok found) = record { says = done (found.rights ∷ []); start = found.start; size = found.size }
+evaluated_as (Err refusal) = bare (refusal_says refusal)
 
 -- checking a list
-pub record Checks (list : List ℕ) (r : Verdict) : Type 0 where
-  pub answer : verdict_says r ≡ check_says list
+pub record Checks (list : List ℕ) (r : Result (Unit {0}) Refusal) : Type 0 where
+  pub answer : plain_says r ≡ check_says list
 
 -- evaluating a list
-pub record Evaluates (list groups : List ℕ) (caller : Caller) (file : File) (r : Evaluated) : Type 0 where
+pub record Evaluates (list groups : List ℕ) (caller : Caller) (file : File) (r : Result Found Refusal) : Type 0 where
   pub answer : evaluated_as r ≡ evaluation list groups caller file

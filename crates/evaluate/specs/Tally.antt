@@ -1,8 +1,9 @@
 -- How one pass decides: what it keeps of the records so far. Contracts within the crate cite this; no public statement does.
-use Rattle.std.specs.Prelude.{◌≡◌, ◌||◌, ℕ, suc, eqb, ltb, if◌then◌else◌}
+use Rattle.std.specs.Prelude.{◌≡◌, ◌||◌, ℕ, suc, eqb, ltb, if◌then◌else◌, Result, Ok}
 use mathlib.Core.List.{List, [], ◌∷◌, foldl}
 use Rattle.std.specs.Int.Bits.{bit_and, bit_or}
-use Rattle.words.specs.Said.{Said, done, refused}
+use Rattle.words.specs.Refusal.{says_by}
+use Rattle.words.specs.declared.refusal.Refusal.{Refusal}
 use Rattle.words.specs.Realm.{realm_at}
 use Rattle.list.specs.Checking.{Placed, records, check_says}
 use Rattle.records.specs.declared.records.Record.{Record}
@@ -10,8 +11,6 @@ use Rattle.evaluate.specs.Asking.{of_default_realm}
 use Rattle.evaluate.specs.Steps.{Step, steps, is_mask}
 use Rattle.evaluate.specs.declared.asking.Caller.{Caller}
 use Rattle.evaluate.specs.declared.asking.File.{File}
-use Rattle.evaluate.specs.declared.pass.Passed.{Passed}
-use Rattle.evaluate.specs.declared.pass.Passed.TheVariants.{Refused, Fine}
 use Rattle.evaluate.specs.declared.tally.Tally.{Tally}
 
 -- the number of the first step that takes a record, the steps being numbered from n on; one past the end where none does
@@ -51,11 +50,7 @@ tallying ts t p = tallied t (step_from 1 ts p.it) p
 unfoldable pub tally_in : List ℕ → List ℕ → Caller → File → Tally
 tally_in list groups caller file = foldl (tallying (steps (of_default_realm caller (realm_at 1 list)) groups caller file)) no_tally (records list)
 
-unfoldable pub pass_says : Passed → Said
-pass_says (Refused number place) = refused number (place ∷ [])
-pass_says (Fine tally) = done []
-
 -- passing over a list
-pub record Passes (list groups : List ℕ) (caller : Caller) (file : File) (r : Passed) : Type 0 where
-  pub check : pass_says r ≡ check_says list
-  pub tally : (t : Tally) → r ≡ Fine t → t ≡ tally_in list groups caller file
+pub record Passes (list groups : List ℕ) (caller : Caller) (file : File) (r : Result Tally Refusal) : Type 0 where
+  pub check : says_by (λ tally. []) r ≡ check_says list
+  pub tally : (t : Tally) → r ≡ Ok t → t ≡ tally_in list groups caller file

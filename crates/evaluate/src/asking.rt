@@ -2,7 +2,7 @@
 ghost use Rattle.std.specs.Prelude.{◌≡◌};
 ghost use Rattle.evaluate.specs.Asking.{of_default_realm, TellsGroup};
 
-use words::{Realm, same_realm};
+use words::Realm;
 
 // A caller; its further groups are lent beside it.
 #[derive(Clone, Copy)]
@@ -20,28 +20,17 @@ pub struct File {
 }
 
 // A realm of sixteen zeroes, as jobs started on the server itself have, counts as the default realm.
+#[tactic(auto, unfolding(crate::specs::Asking::of_default_realm, words::specs::Realm::same_realm, words::specs::Realm::zero_realm))]
 pub(crate) fn is_of_default_realm(caller: Caller, default: Realm) -> bool
     ensures { result ≡ of_default_realm caller default }
 {
-    if same_realm(caller.realm, Realm { hi: 0, lo: 0 }) {
-        return true;
-    }
-    same_realm(caller.realm, default)
+    caller.realm == Realm::ZERO || caller.realm == default
 }
 
 // The caller's primary group, or one of those lent.
+#[tactic(auto, unfolding(crate::specs::Asking::in_group))]
 pub fn is_in_group(caller: Caller, groups: &[u32], id: u32) -> bool
     ensures { TellsGroup caller groups.now id result }
 {
-    if caller.group == id {
-        return true;
-    }
-    let mut i = 0;
-    while i < groups.len() {
-        if groups[i] == id {
-            return true;
-        }
-        i += 1;
-    }
-    false
+    caller.group == id || groups.contains(&id)
 }

@@ -4,11 +4,10 @@
 mod asking;
 mod evaluation;
 mod pass;
-pub mod refusal;
 mod steps;
 mod tally;
 mod verdict;
 
 pub use asking::{Caller, File, is_in_group};
-pub use evaluation::{Evaluated, MOST_GROUPS, evaluate};
-pub use verdict::{Verdict, check_list};
+pub use evaluation::{Found, MOST_GROUPS, evaluate};
+pub use verdict::check_list;

@@ -10,7 +10,6 @@ use list::kind::{
     ANY_OTHER, FOREIGN_GROUP, FOREIGN_OTHER, FOREIGN_USER, GROUP, GROUP_OBJ, OTHER_OBJ, USER,
     USER_OBJ,
 };
-use words::same_realm;
 
 // After all seven: what a record that serves none is given.
 const NONE: u8 = 8;
@@ -74,7 +73,7 @@ fn step_abroad(groups: &[u32], caller: Caller, r: Record) -> u8
     if kind == ANY_OTHER {
         return 6;
     }
-    if !same_realm(r.realm, caller.realm) {
+    if r.realm != caller.realm {
         return NONE;
     }
     if kind == FOREIGN_USER {

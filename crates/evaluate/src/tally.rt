@@ -25,6 +25,7 @@ pub struct Tally {
     pub mask: u8,
 }
 
+#[tactic(auto, unfolding(crate::specs::Tally::no_tally))]
 pub(crate) fn no_tally() -> Tally
     ensures { result ≡ no_tally }
 {
@@ -38,31 +39,28 @@ pub(crate) fn no_tally() -> Tally
 }
 
 impl Tally {
+    #[tactic(auto, unfolding(crate::specs::Tally::with_mask))]
     fn with_mask(self, r: Record) -> Tally
         ensures { result ≡ with_mask self r }
     {
         Tally {
-            step: self.step,
-            rights: self.rights,
-            start: self.start,
-            size: self.size,
             mask: self.mask & r.rights,
+            ..self
         }
     }
 
+    #[tactic(auto, unfolding(crate::specs::Tally::with_union))]
     fn with_union(self, r: Record) -> Tally
         ensures { result ≡ with_union self r }
     {
         Tally {
-            step: self.step,
             rights: self.rights | r.rights,
-            start: self.start,
-            size: self.size,
-            mask: self.mask,
+            ..self
         }
     }
 
     // With the record at a place, which serves a step.
+    #[tactic(auto, unfolding(crate::specs::Tally::tallied, crate::specs::Tally::counted, crate::specs::Steps::is_mask, list::specs::Checking::placed))]
     pub(crate) fn with(self, step: u8, at: usize, r: Record) -> Tally
         ensures { result ≡ tallied self step (placed at r) }
     {
@@ -76,7 +74,7 @@ impl Tally {
             return self.with_union(r);
         }
         Tally {
-            step: step,
+            step,
             rights: r.rights,
             start: at,
             size: r.size,
@@ -85,6 +83,7 @@ impl Tally {
     }
 
     // Steps 1 and 4 are not masked.
+    #[tactic(auto, using(crate::proofs::Masking::unmasked_allowed, crate::proofs::Masking::masked_allowed))]
     pub(crate) fn allowed(self) -> u8
         ensures { (result ≡ allowed self) × (self.rights < 256) }
     {

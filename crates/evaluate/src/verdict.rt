@@ -2,17 +2,11 @@
 ghost use Rattle.evaluate.specs.Evaluation.{Checks};
 
 use crate::asking::Caller;
-use crate::pass::{Passed, pass};
-use words::Realm;
-
-#[derive(Clone, Copy)]
-pub enum Verdict {
-    Fine,
-    Refused { number: u8, place: usize },
-}
+use crate::pass::pass;
+use words::{Realm, Refusal};
 
 // The pass for a stranger, whose rights are not looked at: one loop serves the check and the rights, since two would each be slower.
-pub fn check_list(list: &[u8]) -> Verdict
+pub fn check_list(list: &[u8]) -> Result<(), Refusal>
     ensures { Checks list.now result }
 {
     let caller = Caller {
@@ -21,11 +15,6 @@ pub fn check_list(list: &[u8]) -> Verdict
         group: 0,
     };
     let groups = [0u32; 0];
-    match pass(list, &groups, caller, 1, 1) {
-        Passed::Refused { number, place } => Verdict::Refused {
-            number: number,
-            place: place,
-        },
-        Passed::Fine(_) => Verdict::Fine,
-    }
+    pass(list, &groups, caller, 1, 1)?;
+    Ok(())
 }

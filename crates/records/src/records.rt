@@ -6,7 +6,7 @@ ghost use Rattle.records.specs.Kind.{body, body_of};
 ghost use Rattle.records.specs.Reading.{read_as, ReadsRecord};
 
 use crate::kind::{ANY_OTHER, DEFAULT_REALM, FOREIGN_GROUP, FOREIGN_OTHER, GROUP, USER_OBJ};
-use words::{Fault, Realm, number32, realm_at};
+use words::{Fault, Realm, number_at, realm_at};
 
 // What a record says, and its length with the kind's byte; what its kind has not is zero.
 #[derive(Clone, Copy)]
@@ -34,7 +34,7 @@ fn id_in(tail: &[u8], width: usize, at: usize) -> u32
     if width == 0 {
         return 0;
     }
-    number32(tail, at)
+    number_at(tail, at)
 }
 
 fn rights_in(tail: &[u8], width: usize, at: usize) -> u8

@@ -6,11 +6,20 @@ use crate::records::Record;
 use words::{Realm, is_unknown};
 
 // By body without rights, of realm and then of id: the numbers' order is the bytes' order.
-#[tactic(auto, using(crate::proofs::Rising::by_parts))]
+#[tactic(auto, unfolding(words::specs::Realm::less_realm))]
 pub fn bodies_in_order(earlier: Record, r: Record) -> bool
     ensures { TellsBodies earlier r result }
 {
-    (earlier.realm, earlier.id) < (r.realm, r.id)
+    // Half by half: `<` of tuples or of realms costs a record 3 to 7 instructions more.
+    let a = earlier.realm;
+    let b = r.realm;
+    if a.hi != b.hi {
+        return a.hi < b.hi;
+    }
+    if a.lo != b.lo {
+        return a.lo < b.lo;
+    }
+    earlier.id < r.id
 }
 
 // By kind, then by body.

@@ -7,8 +7,8 @@ use Rattle.edit.proofs.Pieces.{record_length}
 use Rattle.edit.proofs.Spliced.{no_room, room}
 use Rattle.edit.proofs.writing.write_put.Goals as goal
 
-pub returns-then-out-n : goal.returns-then-out-n
-returns-then-out-n c = let a = c.args in no_room c.requires.0 a.out.now (spelled (record_for a.entry)) (record_length a.entry c.requires.2) c.if-out-n.true
+pub returns-then-out-plan : goal.returns-then-out-plan
+returns-then-out-plan c = let a = c.args in no_room c.requires.0 a.out.now (spelled (record_for a.entry)) (record_length a.entry c.requires.2) c.if-out-plan.true
 
 pub returns : goal.returns
-returns c = let a = c.args in room c.requires.0 a.out.now (spelled (record_for a.entry)) (record_length a.entry c.requires.2) c.if-out-n.false (c.copy_to-2.ensures ∙ rw (c.write_record.ensures, c.copy_to.ensures, part_to_end, sub-zero) refl)
+returns c = let a = c.args in room c.requires.0 a.out.now (spelled (record_for a.entry)) (record_length a.entry c.requires.2) c.if-out-plan.false (c.copy_to-2.ensures ∙ rw (c.write_record.ensures, c.copy_to.ensures, part_to_end, sub-zero) refl)

@@ -5,7 +5,7 @@ use Rattle.entry.proofs.spot.find.Goals as goal
 
 pub loop-at-init : goal.loop-at-init
 unfolding spotted
-loop-at-init c = starts _ _ (λ i. (c.shared_slice_known-1.given i).fits) c.requires.0 c.requires.1
+loop-at-init c = starts _ _ (λ i. (c.type_inv.list i).fits) c.requires.0 c.requires.1
 
 pub side_of-requires : goal.side_of-requires
 unfolding spotted
@@ -25,19 +25,19 @@ loop-at-smaller c = let g = goes_on c.loop-at.invariant c.loop-at-test.true (rw 
 
 pub loop-at-preserved : goal.loop-at-preserved
 unfolding spotted
-loop-at-preserved c = goes c.loop-at.invariant c.loop-at-test.true (rw (first_of c.args.list.now c.loop-at.at) at c.size_of-at.ensures) (rw part_to_end at c.side_of.ensures) c.in-Before.is
+loop-at-preserved c = goes c.loop-at.invariant c.loop-at-test.true (rw (first_of c.args.list.now c.loop-at.at) at c.size_of-at.ensures) (rw part_to_end at c.side_of.ensures) c.in-Less.is
 
 pub size_of-requires : goal.size_of-requires
 unfolding spotted
 size_of-requires c = rw (first_of c.args.list.now c.loop-at.at) (is_entry_kind c.loop-at.invariant c.loop-at-test.true)
 
-pub returns-in-Same : goal.returns-in-Same
+pub returns-in-Equal : goal.returns-in-Equal
 unfolding spotted
-returns-in-Same c = stops_same c.loop-at.invariant c.loop-at-test.true (rw part_to_end at c.side_of.ensures) c.requires.1 c.in-Same.is (rw (first_of c.args.list.now c.loop-at.at) at c.size_of.ensures)
+returns-in-Equal c = stops_same c.loop-at.invariant c.loop-at-test.true (rw part_to_end at c.side_of.ensures) c.requires.1 c.in-Equal.is (rw (first_of c.args.list.now c.loop-at.at) at c.size_of.ensures)
 
-pub returns-in-After : goal.returns-in-After
+pub returns-in-Greater : goal.returns-in-Greater
 unfolding spotted
-returns-in-After c = stops_after c.loop-at.invariant c.loop-at-test.true (rw part_to_end at c.side_of.ensures) c.requires.1 c.in-After.is
+returns-in-Greater c = stops_after c.loop-at.invariant c.loop-at-test.true (rw part_to_end at c.side_of.ensures) c.requires.1 c.in-Greater.is
 
 pub returns : goal.returns
 unfolding spotted

@@ -1,8 +1,8 @@
-use Rattle.evaluate.proofs.Passing.{checked_refused, checked_fine}
+use Rattle.evaluate.proofs.Passing.{handed_on, checked_refused, checked_fine}
 use Rattle.evaluate.proofs.verdict.check_list.Goals as goal
 
-pub returns-in-Refused : goal.returns-in-Refused
-returns-in-Refused c = record { answer = checked_refused c.pass.ensures c.in-Refused.is }
+pub returns-in_err-pass : goal.returns-in_err-pass
+returns-in_err-pass c = rw (handed_on _ _ c.from_residual.ensures.1) (checked_refused c.pass.ensures c.in_err-pass.was)
 
-pub returns-in-Fine : goal.returns-in-Fine
-returns-in-Fine c = record { answer = checked_fine c.pass.ensures c.in-Fine.is }
+pub returns : goal.returns
+returns c = checked_fine c.pass.ensures c.in_ok-pass.was
