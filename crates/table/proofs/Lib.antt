@@ -2,6 +2,7 @@ pub mod Zeroes
 pub mod Widths
 pub mod Cuts
 pub mod Slots
+pub mod Places
 pub mod Forms
 pub mod Scans
 pub mod Spelled

@@ -16,13 +16,13 @@ pub record Checked (bytes : List ℕ) (top next size : ℕ) (rest : List ℕ) : 
   pub good : all_of (is_slot top next) slots.passed ≡ true
 
 module _ {bytes : List ℕ} (top next : ℕ) where
-  pub none_checked : {size : ℕ} {rest : List ℕ} → width ≤ length bytes → size ≡ width → rest ≡ take (length bytes - width) (drop width bytes) → Checked bytes top next size rest
+  unfoldable pub none_checked : {size : ℕ} {rest : List ℕ} → width ≤ length bytes → size ≡ width → rest ≡ take (length bytes - width) (drop width bytes) → Checked bytes top next size rest
   unfolding all_of none_passed
   none_checked h w e = record { slots = none_passed bytes h w e; good = refl }
 
 module _ {bytes : List ℕ} {top next size : ℕ} {rest : List ℕ} (so_far : Checked bytes top next size rest) where
   module _ (slot more : List ℕ) (given : (rest ≡ slot ++ more) × (length slot ≡ size)) {b : Bool} (told : b ≡ is_slot top next slot) where
-    pub one_checked : b ≡ true → {size' : ℕ} → size' ≡ size → Checked bytes top next size' more
+    unfoldable pub one_checked : b ≡ true → {size' : ℕ} → size' ≡ size → Checked bytes top next size' more
     unfolding all_of one_passed
     one_checked t e = record {
       slots = one_passed so_far.slots slot more given e;
