@@ -1,6 +1,9 @@
 -- Contracts of the crate's own functions: what a scan has seen of the slots so far.
-use Rattle.std.specs.Prelude.{◌≡◌, true, false, not, List, ℕ, ◌+◌, eqb, if◌then◌else◌}
+use Rattle.std.specs.Prelude.{◌≡◌, true, false, not, Some, Result, IfOk, IfErr, List, ℕ, ◌+◌, eqb, if◌then◌else◌}
+use Rattle.std.specs.Option.{option_or}
 use Rattle.words.specs.Test.{all_of}
+use Rattle.words.specs.declared.refusal.Refusal.{Refusal}
+use Rattle.words.specs.declared.refusal.Refusal.TheVariants.{NotWellFormed}
 use Rattle.claims.specs.Rule.{conflict}
 use Rattle.claims.specs.declared.claim.Claim.{Claim}
 use Rattle.table.specs.Table.{is_free, is_in_the_way}
@@ -13,31 +16,28 @@ use Rattle.surveys.specs.Survey.{Saw}
 use Rattle.surveys.specs.declared.scan.Seen.{Seen}
 use Rattle.surveys.specs.declared.wide.SeenWide.{SeenWide}
 
--- one slot more, the one at i of n; before a free one is seen the free place is n
-pub record Passes (seen : Seen) (i n : ℕ) (slot : Slot) (claim : Claim) (r : Seen) : Type 0 where
-  pub formed : r.formed ≡ seen.formed
+-- one slot more, the one at i
+pub record Passes (seen : Seen) (i : ℕ) (slot : Slot) (claim : Claim) (r : Seen) : Type 0 where
   pub conflicts : r.conflicts ≡ (if is_in_the_way claim slot then seen.conflicts + 1 else seen.conflicts)
-  pub free : r.free ≡ (if is_free slot then (if eqb seen.free n then i else seen.free) else seen.free)
+  pub free : r.free ≡ (if is_free slot then option_or seen.free (Some i) else seen.free)
 
 pub record PassesToken (seen : Seen) (held claim : Claim) (r : Seen) : Type 0 where
-  pub formed : r.formed ≡ seen.formed
   pub conflicts : r.conflicts ≡ (if not (eqb (conflict held claim) 0) then seen.conflicts + 1 else seen.conflicts)
   pub free : r.free ≡ seen.free
 
-pub record SurveysSlots (bytes : List ℕ) (claim : Claim) (top next : ℕ) (r : Seen) : Type 0 where
-  pub formed : r.formed ≡ all_of (is_slot top next) (slots_in bytes)
-  pub saw : r.formed ≡ true → Saw (table_of bytes).slots claim r
+pub record SurveysSlots (bytes : List ℕ) (claim : Claim) (top next : ℕ) (r : Result Seen Refusal) : Type 0 where
+  pub saw : IfOk r (λ seen. (all_of (is_slot top next) (slots_in bytes) ≡ true) × Saw (table_of bytes).slots claim seen)
+  pub ill : IfErr r (λ refusal. (all_of (is_slot top next) (slots_in bytes) ≡ false) × (refusal ≡ NotWellFormed))
 
 -- the same, and the range that the tokens leave
 pub record PassesTokenWide (seen : Seen) (range : Range) (held claim : Claim) (r : SeenWide) : Type 0 where
   pub passes : PassesToken seen held claim r.seen
   pub leaves : over claim r.range ≡ (if is_rival claim held then beside claim (over claim range) held else over claim range)
 
-pub record PassesWide (seen : Seen) (range : Range) (i n : ℕ) (slot : Slot) (claim : Claim) (r : SeenWide) : Type 0 where
-  pub passes : Passes seen i n slot claim r.seen
+pub record PassesWide (seen : Seen) (range : Range) (i : ℕ) (slot : Slot) (claim : Claim) (r : SeenWide) : Type 0 where
+  pub passes : Passes seen i slot claim r.seen
   pub leaves : over claim r.range ≡ narrowed claim (over claim range) slot
 
-pub record SurveysSlotsWide (bytes : List ℕ) (claim : Claim) (top next : ℕ) (r : SeenWide) : Type 0 where
-  pub seen : SurveysSlots bytes claim top next r.seen
-  pub range : r.seen.formed ≡ true → over claim r.range ≡ widened claim (table_of bytes)
-  pub untold : r.seen.formed ≡ false → ((r.seen.conflicts ≡ 0) × (r.seen.free ≡ 0)) × (r.range.first ≡ 0) × (r.range.last ≡ 0)
+pub record SurveysSlotsWide (bytes : List ℕ) (claim : Claim) (top next : ℕ) (r : Result SeenWide Refusal) : Type 0 where
+  pub saw : IfOk r (λ told. (all_of (is_slot top next) (slots_in bytes) ≡ true) × Saw (table_of bytes).slots claim told.seen × (over claim told.range ≡ widened claim (table_of bytes)))
+  pub ill : IfErr r (λ refusal. (all_of (is_slot top next) (slots_in bytes) ≡ false) × (refusal ≡ NotWellFormed))

@@ -1,57 +1,44 @@
 // Surveying a table for a claim.
-ghost use Rattle.std.specs.Prelude.{◌≡◌, true, false, ◌≤◌, eqb, length, if◌then◌else◌};
-ghost use Rattle.table.specs.Form.{is_length};
+ghost use Rattle.std.specs.Prelude.{◌≤◌, length};
+ghost use Rattle.table.specs.Layout.{width, count};
 ghost use Rattle.surveys.specs.Survey.{Surveys};
 ghost use Rattle.surveys.specs.Scan.{PassesToken, Passes, SurveysSlots};
 
 use claims::{Claim, conflict};
-use table::{LIMIT, NEXT, Slot, WIDTH, is_slot, opens, read_slot};
+use table::{LIMIT, NEXT, Refusal, Slot, WIDTH, is_slot, opens, read_slot};
 use words::number64;
 
-// Conflicts are counted; the free place is how many slots there are where none is free.
+// How many tokens conflict, and the lowest free slot.
 #[derive(Clone, Copy)]
 pub struct Seen {
-    pub formed: bool,
     pub conflicts: usize,
-    pub free: usize,
+    pub free: Option<usize>,
 }
 
-// A token's slot more. What was seen is made anew in every arm: so it stays in registers.
+// A token's slot more.
 pub(crate) fn pass_token(seen: Seen, held: Claim, claim: Claim) -> Seen
     requires { seen.conflicts ≤ 1024 }
     ensures { PassesToken seen held claim result }
 {
     if conflict(held, claim) == 0 {
-        return Seen {
-            formed: seen.formed,
-            conflicts: seen.conflicts,
-            free: seen.free,
-        };
+        return seen;
     }
     Seen {
-        formed: seen.formed,
         conflicts: seen.conflicts + 1,
-        free: seen.free,
+        ..seen
     }
 }
 
-// The slot at i of n is free, and the lowest one where none is before it.
-pub(crate) fn lowest(free: usize, i: usize, n: usize) -> usize
-    ensures { result ≡ (if eqb free n then i else free) }
-{
-    if free == n { i } else { free }
-}
-
-// One slot more, the one at i of n.
-fn pass(seen: Seen, i: usize, n: usize, slot: Slot, claim: Claim) -> Seen
+// One slot more, the one at i.
+#[tactic(auto, unfolding(table::specs::Table::is_free, table::specs::Table::is_in_the_way))]
+fn pass(seen: Seen, i: usize, slot: Slot, claim: Claim) -> Seen
     requires { seen.conflicts ≤ 1024 }
-    ensures { Passes seen i n slot claim result }
+    ensures { Passes seen i slot claim result }
 {
     match slot {
         Slot::Free => Seen {
-            formed: seen.formed,
-            conflicts: seen.conflicts,
-            free: lowest(seen.free, i, n),
+            free: seen.free.or(Some(i)),
+            ..seen
         },
         Slot::Held {
             number: _,
@@ -60,53 +47,28 @@ fn pass(seen: Seen, i: usize, n: usize, slot: Slot, claim: Claim) -> Seen
     }
 }
 
-// Nothing is told of a table that is not well formed.
-fn untold() -> Seen
-    ensures { result ≡ record { formed = false; conflicts = 0; free = 0 } }
-{
-    Seen {
-        formed: false,
-        conflicts: 0,
-        free: 0,
-    }
-}
-
-fn survey_slots(table: &[u8], claim: Claim, limit: u16, next: u64) -> Seen
-    requires { is_length (length table.now) ≡ true }
+fn survey_slots(table: &[u8], claim: Claim, limit: u16, next: u64) -> Result<Seen, Refusal>
+    requires { (width ≤ length table.now) × (count table.now ≤ 1024) }
     ensures { SurveysSlots table.now claim limit next result }
 {
-    let n = table.len() / WIDTH - 1;
     let mut seen = Seen {
-        formed: true,
         conflicts: 0,
-        free: n,
+        free: None,
     };
-    let mut i = 0;
-    while i < n {
-        let at = WIDTH * (i + 1);
-        let slot = &table[at..at + WIDTH];
+    for (i, slot) in table[WIDTH..].chunks_exact(WIDTH).enumerate() {
         if !is_slot(slot, limit, next) {
-            return Seen {
-                formed: false,
-                conflicts: seen.conflicts,
-                free: seen.free,
-            };
+            return Err(Refusal::NotWellFormed);
         }
-        seen = pass(seen, i, n, read_slot(slot), claim);
-        i += 1;
+        seen = pass(seen, i, read_slot(slot), claim);
     }
-    seen
+    Ok(seen)
 }
 
-pub fn survey(table: &[u8], claim: Claim) -> Seen
+pub fn survey(table: &[u8], claim: Claim) -> Result<Seen, Refusal>
     ensures { Surveys table.now claim result }
 {
     if !opens(table) {
-        return untold();
+        return Err(Refusal::NotWellFormed);
     }
-    let seen = survey_slots(table, claim, LIMIT, number64(table, NEXT));
-    if !seen.formed {
-        return untold();
-    }
-    seen
+    survey_slots(table, claim, LIMIT, number64(table, NEXT))
 }

@@ -1,6 +1,8 @@
 pub mod Zeroes
 pub mod Widths
 pub mod Cuts
+pub mod Slots
+pub mod Places
 pub mod Forms
 pub mod Scans
 pub mod Spelled

@@ -1,48 +1,40 @@
 -- A scan of the slots for their form. Assumes nothing.
 use mathlib.Core.Path.{◌≡◌, refl, sym, ◌∙◌, ap}
 use mathlib.Core.Bool.{Bool, true, false}
-use mathlib.Core.List.{List, [], ◌∷◌}
-use Prim.Native.Nat.{ℕ, suc, ◌+◌, ◌*◌, ◌≤◌, ◌<◌}
-use native.Mathlib.Omega.{arith}
+use mathlib.Core.List.{List, [], ◌∷◌, ◌++◌}
+use Prim.Native.Nat.{ℕ, ◌-◌, ◌≤◌, ◌<◌}
 use lib.ListN.{length, take, drop}
-use lib.Seq.{take_all}
 use Rattle.words.specs.Test.{all_of}
-use Rattle.words.specs.Number.{part}
 use Rattle.words.proofs.Tests.{all_append, and_both}
-use Rattle.table.specs.Layout.{width, count, slots_in}
-use Rattle.table.specs.Form.{is_length, is_slot}
-use Rattle.table.proofs.Cuts.{Sized, sized, slots_length, slots_more, slots_split}
+use Rattle.table.specs.Layout.{width, slots_in}
+use Rattle.table.specs.Form.{is_slot}
+use Rattle.table.proofs.Slots.{Passing, cuts, none_passed, at_slot, one_passed, all_passed}
 
--- the first i of n slots are well formed
-pub record Checked (bytes : List ℕ) (top next i : ℕ) : Type 0 where
-  pub size : Sized bytes
-  pub within : i ≤ count bytes
-  pub good : all_of (is_slot top next) (take i (slots_in bytes)) ≡ true
+-- the slots that the loop has passed are well formed
+pub record Checked (bytes : List ℕ) (top next size : ℕ) (rest : List ℕ) : Type 0 where
+  pub slots : Passing bytes size rest
+  pub good : all_of (is_slot top next) slots.passed ≡ true
 
-module _ (bytes : List ℕ) (top next : ℕ) where
-  pub none_checked : is_length (length bytes) ≡ true → Checked bytes top next 0
-  unfolding all_of
-  none_checked e = record { size = sized bytes e; within = omega arith; good = refl }
+module _ {bytes : List ℕ} (top next : ℕ) where
+  unfoldable pub none_checked : {size : ℕ} {rest : List ℕ} → width ≤ length bytes → size ≡ width → rest ≡ take (length bytes - width) (drop width bytes) → Checked bytes top next size rest
+  unfolding all_of none_passed
+  none_checked h w e = record { slots = none_passed bytes h w e; good = refl }
 
-  module _ (i : ℕ) (so_far : Checked bytes top next i) where
-    module _ (h : i < count bytes) {b : Bool} (told : b ≡ is_slot top next (part (width * (i + 1)) width bytes)) where
-      pub one_checked : b ≡ true → Checked bytes top next (i + 1)
-      unfolding all_of
-      one_checked t = record {
-        size = so_far.size;
-        within = omega arith;
-        good = ap (all_of (is_slot top next)) (slots_more bytes i h)
-            ∙ all_append (is_slot top next) (take i (slots_in bytes)) (part (width * (i + 1)) width bytes ∷ [])
-            ∙ and_both _ _ so_far.good (rw (← told, t) refl);
-      }
+module _ {bytes : List ℕ} {top next size : ℕ} {rest : List ℕ} (so_far : Checked bytes top next size rest) where
+  module _ (slot more : List ℕ) (given : (rest ≡ slot ++ more) × (length slot ≡ size)) {b : Bool} (told : b ≡ is_slot top next slot) where
+    unfoldable pub one_checked : b ≡ true → {size' : ℕ} → size' ≡ size → Checked bytes top next size' more
+    unfolding all_of one_passed
+    one_checked t e = record {
+      slots = one_passed so_far.slots slot more given e;
+      good = all_append (is_slot top next) so_far.slots.passed (slot ∷ []) ∙ and_both _ _ so_far.good (rw (← told, t) refl);
+    }
 
-      pub one_bad : b ≡ false → false ≡ all_of (is_slot top next) (slots_in bytes)
-      unfolding all_of
-      one_bad t =
-          sym (ap (all_of (is_slot top next)) (slots_split bytes i h)
-          ∙ all_append (is_slot top next) (take i (slots_in bytes)) (part (width * (i + 1)) width bytes ∷ drop (suc i) (slots_in bytes))
-          ∙ rw (so_far.good, ← told, t) refl)
+    pub one_bad : b ≡ false → false ≡ all_of (is_slot top next) (slots_in bytes)
+    unfolding all_of
+    one_bad t =
+        sym (ap (all_of (is_slot top next)) (at_slot so_far.slots slot more given)
+        ∙ all_append (is_slot top next) so_far.slots.passed (slot ∷ cuts more)
+        ∙ rw (so_far.good, ← told, t) refl)
 
-    pub all_checked : count bytes ≤ i → true ≡ all_of (is_slot top next) (slots_in bytes)
-    all_checked h =
-        sym so_far.good ∙ ap (all_of (is_slot top next)) (take_all i (slots_in bytes) (omega (arith, slots_length bytes)))
+  pub all_checked : length rest < size → true ≡ all_of (is_slot top next) (slots_in bytes)
+  all_checked h = sym so_far.good ∙ ap (all_of (is_slot top next)) (sym (all_passed so_far.slots h))

@@ -82,17 +82,13 @@ pub fn is_slot(slot: &[u8], limit: u16, next: u64) -> bool
 }
 
 fn are_slots(table: &[u8], limit: u16, next: u64) -> bool
-    requires { is_length (length table.now) ≡ true }
+    requires { width ≤ length table.now }
     ensures { result ≡ all_of (is_slot limit next) (slots_in table.now) }
 {
-    let n = table.len() / WIDTH - 1;
-    let mut i = 0;
-    while i < n {
-        let at = WIDTH * (i + 1);
-        if !is_slot(&table[at..at + WIDTH], limit, next) {
+    for slot in table[WIDTH..].chunks_exact(WIDTH) {
+        if !is_slot(slot, limit, next) {
             return false;
         }
-        i += 1;
     }
     true
 }

@@ -1,22 +1,17 @@
 -- What tokens leave of a range, by the tests that the code makes. Assumes nothing.
-use mathlib.Core.Path.{◌≡◌, refl, sym, ◌∙◌, ap}
+use mathlib.Core.Path.{◌≡◌, refl, sym, ◌∙◌}
 use mathlib.Core.Bool.{false}
 use mathlib.Core.List.{List, [], ◌∷◌, ◌++◌, foldl, foldl-append}
-use Prim.Native.Nat.{ℕ, ◌+◌, ◌-◌, ◌*◌, ◌≤◌, ◌<◌}
+use Prim.Native.Nat.{ℕ, ◌+◌, ◌-◌, ◌≤◌, ◌<◌}
 use native.Mathlib.Omega.{arith}
 use borrow.Author.Tests.{eqb-true, not-false, lt-ltb, le-ltb}
 use lib.Dec.{eqb}
-use lib.ListN.{take}
-use lib.Seq.{take_all}
-use Rattle.words.specs.Number.{part}
 use Rattle.claims.specs.Claim.{with_range}
 use Rattle.claims.specs.Rule.{conflict}
 use Rattle.claims.specs.declared.claim.Claim.{Claim}
 use Rattle.claims.proofs.Ranges.{clear}
-use Rattle.table.specs.Layout.{width, slot_of, count, table_of}
 use Rattle.table.specs.declared.slot.Slot.{Slot}
-use Rattle.table.proofs.Cuts.{table_length, table_more}
-use Rattle.widest.specs.Widest.{last_byte, later, earlier, is_rival, beside, narrowed, widened, over}
+use Rattle.widest.specs.Widest.{last_byte, later, earlier, is_rival, beside, narrowed, over}
 use Rattle.widest.specs.declared.range.Range.{Range}
 
 -- one token
@@ -41,25 +36,14 @@ no_rival held claim e first last ends =
     clear held claim 0 last_byte first last (eqb-true (conflict held (with_range claim 0 last_byte)) 0 (not-false (eqb (conflict held (with_range claim 0 last_byte)) 0) e))
     (λ p q. (omega (arith, p, ends), omega arith))
 
--- what the first i slots leave
-pub record Narrowed (bytes : List ℕ) (claim : Claim) (i : ℕ) (range : Range) : Type 0 where
-  pub within : i ≤ count bytes
-  pub left : over claim range ≡ foldl (narrowed claim) (with_range claim 0 last_byte) (take i (table_of bytes).slots)
+-- what slots leave, and what one more does
+pub record Narrowed (claim : Claim) (slots : List Slot) (range : Range) : Type 0 where
+  pub left : over claim range ≡ foldl (narrowed claim) (with_range claim 0 last_byte) slots
 
-module _ (bytes : List ℕ) (claim : Claim) where
-  pub none_narrowed : Narrowed bytes claim 0 (record { first = 0; last = last_byte })
-  none_narrowed = record { within = omega arith; left = refl }
+module _ {claim : Claim} where
+  pub none_narrowed : Narrowed claim [] (record { first = 0; last = last_byte })
+  none_narrowed = record { left = refl }
 
-  module _ (i : ℕ) (range : Range) (so_far : Narrowed bytes claim i range) where
-    pub one_narrowed : i < count bytes → {slot : Slot} {r : Range} → slot ≡ slot_of (part (width * (i + 1)) width bytes) → over claim r ≡ narrowed claim (over claim range) slot
-        → Narrowed bytes claim (i + 1) r
-    one_narrowed h {slot} read e =
-        let more : take (i + 1) (table_of bytes).slots ≡ take i (table_of bytes).slots ++ (slot ∷ []) = table_more bytes i h ∙ rw (← read) refl in
-        record {
-          within = omega arith;
-          left = e ∙ rw (so_far.left, more) (sym (foldl-append (narrowed claim) (with_range claim 0 last_byte) (take i (table_of bytes).slots) (slot ∷ [])));
-        }
-
-    pub all_narrowed : count bytes ≤ i → over claim range ≡ widened claim (table_of bytes)
-    unfolding widened
-    all_narrowed h = so_far.left ∙ ap (foldl (narrowed claim) (with_range claim 0 last_byte)) (take_all i (table_of bytes).slots (rw (table_length bytes) h))
+  pub one_narrowed : {slots : List Slot} {range : Range} → Narrowed claim slots range → (slot : Slot) {r : Range} → over claim r ≡ narrowed claim (over claim range) slot
+      → Narrowed claim (slots ++ slot ∷ []) r
+  one_narrowed {slots} so_far slot e = record { left = e ∙ rw so_far.left (sym (foldl-append (narrowed claim) (with_range claim 0 last_byte) slots (slot ∷ []))) }
