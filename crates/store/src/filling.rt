@@ -2,7 +2,7 @@
 ghost use Rattle.table.specs.Fill.{Fills};
 
 use table::{NEXT, Refusal, is_length};
-use writes::write_number64;
+use writes::write_number;
 
 // All slots free, next 1; the old bytes are not looked at.
 pub fn fill(table: &mut [u8]) -> Result<(), Refusal>
@@ -13,6 +13,6 @@ pub fn fill(table: &mut [u8]) -> Result<(), Refusal>
     }
     table.fill(0);
     table[0] = 2;
-    write_number64(table, NEXT, 1);
+    write_number(table, NEXT, 1u64);
     Ok(())
 }

@@ -6,32 +6,32 @@ ghost use Rattle.store.specs.Pieces.{head_bytes, rest_bytes};
 
 use claims::{Claim, FileId};
 use table::{Slot, WIDTH};
-use writes::{write_number16, write_number32, write_number64};
+use writes::write_number;
 
 fn write_head(slot: &mut [u8], kind: u8, types: u16, host: u16)
     requires { width ≤ length slot.old }
     ensures { slot.new ≡ over 0 (head_bytes kind types host) slot.old }
 {
     slot[0] = kind;
-    write_number16(slot, 1, types);
-    write_number16(slot, 3, host);
+    write_number(slot, 1, types);
+    write_number(slot, 3, host);
 }
 
 fn write_file(slot: &mut [u8], file: FileId)
     requires { width ≤ length slot.old }
     ensures { slot.new ≡ over 5 (file_bytes file) slot.old }
 {
-    write_number64(slot, 5, file.hi);
-    write_number32(slot, 13, file.lo);
+    write_number(slot, 5, file.hi);
+    write_number(slot, 13, file.lo);
 }
 
 fn write_rest(slot: &mut [u8], first: u64, last: u64, number: u64)
     requires { width ≤ length slot.old }
     ensures { slot.new ≡ over 17 (rest_bytes first last number) slot.old }
 {
-    write_number64(slot, 17, first);
-    write_number64(slot, 25, last);
-    write_number64(slot, 33, number);
+    write_number(slot, 17, first);
+    write_number(slot, 25, last);
+    write_number(slot, 33, number);
 }
 
 fn write_fields(slot: &mut [u8], kind: u8, number: u64, claim: Claim)

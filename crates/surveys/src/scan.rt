@@ -6,7 +6,7 @@ ghost use Rattle.surveys.specs.Scan.{PassesToken, Passes, SurveysSlots};
 
 use claims::{Claim, conflict};
 use table::{LIMIT, NEXT, Refusal, Slot, WIDTH, is_slot, opens, read_slot};
-use words::number64;
+use words::number_at;
 
 // How many tokens conflict, and the lowest free slot.
 #[derive(Clone, Copy)]
@@ -70,5 +70,5 @@ pub fn survey(table: &[u8], claim: Claim) -> Result<Seen, Refusal>
     if !opens(table) {
         return Err(Refusal::NotWellFormed);
     }
-    survey_slots(table, claim, LIMIT, number64(table, NEXT))
+    survey_slots(table, claim, LIMIT, number_at(table, NEXT))
 }

@@ -9,7 +9,7 @@ use crate::scan::{Seen, pass_token};
 use claims::Claim;
 use table::{LIMIT, NEXT, Refusal, Slot, WIDTH, is_slot, opens, read_slot};
 use widest::{Range, beside, is_rival};
-use words::number64;
+use words::number_at;
 
 // What was seen, and the range that the tokens leave.
 #[derive(Clone, Copy)]
@@ -99,5 +99,5 @@ pub fn survey_wide(table: &[u8], claim: Claim) -> Result<SeenWide, Refusal>
     if !opens(table) {
         return Err(Refusal::NotWellFormed);
     }
-    survey_slots_wide(table, claim, LIMIT, number64(table, NEXT))
+    survey_slots_wide(table, claim, LIMIT, number_at(table, NEXT))
 }

@@ -8,7 +8,7 @@ ghost use Rattle.table.specs.Form.{is_length, all_zero, is_token, is_slot, Tells
 use crate::slot::{kind_of, read_claim};
 use crate::{LIMIT, NEXT, WIDTH};
 use claims::{Claim, is_malformed};
-use words::number64;
+use words::number_at;
 
 // The lengths of a table with 1 slot and with 1,024.
 const LEAST: usize = WIDTH * 2;
@@ -28,10 +28,10 @@ fn is_blank_header(table: &[u8]) -> bool
     requires { width ≤ length table.now }
     ensures { result ≡ all_zero (part 1 32 table.now) }
 {
-    (number64(table, 1) == 0)
-        & (number64(table, 9) == 0)
-        & (number64(table, 17) == 0)
-        & (number64(table, 25) == 0)
+    (number_at::<u64>(table, 1) == 0)
+        & (number_at::<u64>(table, 9) == 0)
+        & (number_at::<u64>(table, 17) == 0)
+        & (number_at::<u64>(table, 25) == 0)
 }
 
 // Length and header are well formed.
@@ -41,7 +41,7 @@ pub fn opens(table: &[u8]) -> bool
     if !is_length(table.len()) {
         return false;
     }
-    (kind_of(table) == 2) & is_blank_header(table) & (number64(table, NEXT) != 0)
+    (kind_of(table) == 2) & is_blank_header(table) & (number_at::<u64>(table, NEXT) != 0)
 }
 
 // 40 zero bytes after the kind.
@@ -49,11 +49,11 @@ fn is_blank_slot(slot: &[u8]) -> bool
     requires { length slot.now ≡ width }
     ensures { result ≡ all_zero (drop 1 slot.now) }
 {
-    (number64(slot, 1) == 0)
-        & (number64(slot, 9) == 0)
-        & (number64(slot, 17) == 0)
-        & (number64(slot, 25) == 0)
-        & (number64(slot, 33) == 0)
+    (number_at::<u64>(slot, 1) == 0)
+        & (number_at::<u64>(slot, 9) == 0)
+        & (number_at::<u64>(slot, 17) == 0)
+        & (number_at::<u64>(slot, 25) == 0)
+        & (number_at::<u64>(slot, 33) == 0)
 }
 
 // A claim in order, under a number that was given.
@@ -78,7 +78,7 @@ pub fn is_slot(slot: &[u8], limit: u16, next: u64) -> bool
     if kind != 1 {
         return false;
     }
-    is_token(number64(slot, 33), read_claim(slot), limit, next)
+    is_token(number_at(slot, 33), read_claim(slot), limit, next)
 }
 
 fn are_slots(table: &[u8], limit: u16, next: u64) -> bool
@@ -100,5 +100,5 @@ pub fn well_formed(table: &[u8]) -> bool
     if !opens(table) {
         return false;
     }
-    are_slots(table, LIMIT, number64(table, NEXT))
+    are_slots(table, LIMIT, number_at(table, NEXT))
 }

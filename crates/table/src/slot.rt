@@ -3,7 +3,7 @@ ghost use Rattle.std.specs.Prelude.{◌≡◌};
 ghost use Rattle.table.specs.Layout.{kind_of, claim_of, ReadsSlot};
 
 use claims::{Claim, FileId};
-use words::{number16, number32, number64};
+use words::number_at;
 
 // A token is a claim under a number.
 #[derive(Clone, Copy)]
@@ -27,18 +27,15 @@ pub(crate) fn kind_of(slot: &[u8]) -> u8
 pub(crate) fn read_claim(slot: &[u8]) -> Claim
     ensures { result ≡ claim_of slot.now }
 {
-    let types = number16(slot, 1);
-    let host = number16(slot, 3);
-    let hi = number64(slot, 5);
-    let lo = number32(slot, 13);
-    let first = number64(slot, 17);
-    let last = number64(slot, 25);
     Claim {
-        types,
-        host,
-        file: FileId { hi, lo },
-        first,
-        last,
+        types: number_at(slot, 1),
+        host: number_at(slot, 3),
+        file: FileId {
+            hi: number_at(slot, 5),
+            lo: number_at(slot, 13),
+        },
+        first: number_at(slot, 17),
+        last: number_at(slot, 25),
     }
 }
 
@@ -49,7 +46,7 @@ pub fn read_slot(slot: &[u8]) -> Slot
     if kind_of(slot) != 1 {
         return Slot::Free;
     }
-    let number = number64(slot, 33);
+    let number = number_at(slot, 33);
     let claim = read_claim(slot);
     Slot::Held { number, claim }
 }

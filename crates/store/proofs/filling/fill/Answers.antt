@@ -18,4 +18,4 @@ pub returns : goal.returns
 unfolding fill_says says_by
 returns c =
     let e = sym c.is_length.ensures.answer ∙ c.if-not-is_length.false in
-    record { answer = simp e; table_after = rw e (all_filled c.args.table.now (sized c.args.table.now e) _ _ (c.fill.ensures.after (λ y e. e)) c.write_number64.ensures.bytes_after) }
+    record { answer = simp e; table_after = rw e (all_filled c.args.table.now (sized c.args.table.now e) _ _ (c.fill.ensures.after (λ y e. e)) c.write_number.ensures.bytes_after) }

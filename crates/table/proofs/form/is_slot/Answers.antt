@@ -12,4 +12,4 @@ pub returns-then-kind-ne1 : goal.returns-then-kind-ne1
 returns-then-kind-ne1 c = record { answer = no_slot c.args.limit c.args.next c.args.slot.now c.if-slot-ne-WIDTH.false c.kind_of-kind.ensures c.if-kind-eq0.false c.if-kind-ne1.true }
 
 pub returns : goal.returns
-returns c = record { answer = token_slot c.args.limit c.args.next c.args.slot.now c.if-slot-ne-WIDTH.false c.kind_of-kind.ensures c.if-kind-eq0.false c.if-kind-ne1.false (c.is_token.ensures ∙ rw (c.number64.ensures.answer, c.read_claim.ensures) refl) }
+returns c = record { answer = token_slot c.args.limit c.args.next c.args.slot.now c.if-slot-ne-WIDTH.false c.kind_of-kind.ensures c.if-kind-eq0.false c.if-kind-ne1.false (c.is_token.ensures ∙ rw (c.number_at.ensures.answer, c.read_claim.ensures) refl) }

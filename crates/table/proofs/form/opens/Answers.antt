@@ -15,4 +15,4 @@ is_blank_header-requires c = let s = sized c.args.table.now (sym c.is_length.ens
 
 pub returns : goal.returns
 unfolding opening is_header next_in
-returns c = record { answer = simp (← c.is_length.ensures.answer, c.if-not-is_length.false, c.kind_of.ensures, c.is_blank_header.ensures, c.number64.ensures.answer) }
+returns c = record { answer = simp (← c.is_length.ensures.answer, c.if-not-is_length.false, c.kind_of.ensures, c.is_blank_header.ensures, c.number_at.ensures.answer) }

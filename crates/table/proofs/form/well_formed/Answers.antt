@@ -15,4 +15,4 @@ are_slots-requires c = opening_wide c.args.table.now (sym c.opens.ensures.answer
 
 pub returns : goal.returns
 unfolding well_formed limit next_in table_of
-returns c = record { answer = simp (← c.opens.ensures.answer, c.if-not-opens.false, c.are_slots.ensures, c.number64.ensures.answer) }
+returns c = record { answer = simp (← c.opens.ensures.answer, c.if-not-opens.false, c.are_slots.ensures, c.number_at.ensures.answer) }

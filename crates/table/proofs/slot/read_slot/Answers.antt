@@ -8,4 +8,4 @@ returns-then-kind_of-ne1 c = record { answer = simp (← c.kind_of.ensures, ne_e
 
 pub returns : goal.returns
 unfolding slot_of
-returns c = record { answer = simp (← c.kind_of.ensures, eq-eqb c.kind_of.result 1 c.if-kind_of-ne1.false, c.number64-number.ensures.answer, c.read_claim-claim.ensures) }
+returns c = record { answer = simp (← c.kind_of.ensures, eq-eqb c.kind_of.result 1 c.if-kind_of-ne1.false, c.number_at-number.ensures.answer, c.read_claim-claim.ensures) }
