@@ -44,7 +44,10 @@ unfolding says_by values whole evaluated_as bare refusal_says
 same_values (Ok found) = refl
 same_values (Err refusal) = refl
 
+-- two evaluations that decide the same are equal
+pub same_evaluation : (r r' : Result Found Refusal) → evaluated_as r ≡ evaluated_as r' → r ≡ r'
+same_evaluation r r' p = same_says values back inverse r r' (same_values r ∙ ap whole p) (same_values r')
+
 pub evaluate_determined : (list groups : List ℕ) (caller : Caller) (file : File) (r r' : Result Found Refusal)
     → Evaluates list groups caller file r → Evaluates list groups caller file r' → r ≡ r'
-evaluate_determined list groups caller file r r' p q =
-    same_says values back inverse r r' (same_values r ∙ ap whole p.answer) (same_values r' ∙ ap whole q.answer)
+evaluate_determined list groups caller file r r' p q = same_evaluation r r' (p.answer ∙ sym q.answer)

@@ -1,37 +1,31 @@
 -- Two outcomes that meet a statement are equal. Assumes nothing.
-use mathlib.Core.Path.{◌≡◌, refl, sym, ◌∙◌, ap}
+use mathlib.Core.Path.{◌≡◌, sym, ◌∙◌}
 use mathlib.Core.List.{List}
 use Prim.Native.Nat.{ℕ}
 use denote.Ref.{Bor}
-use Rattle.words.specs.Said.{Said}
-use Rattle.words.proofs.Determined.{same_answer, unsaid}
+use Rattle.std.specs.Prelude.{Result, Ok, Err}
+use Rattle.words.specs.Refusal.{says_by, refusal_says}
+use Rattle.words.specs.declared.refusal.Refusal.{Refusal}
+use Rattle.words.proofs.Refusals.{same_number}
 use Rattle.evaluate.specs.Evaluation.{Decided}
-use Rattle.rights.specs.Deciding.{answer_says, Finds, Decides}
-use Rattle.rights.specs.declared.answer.Answer.{Answer}
-use Rattle.rights.specs.declared.answer.Answer.TheVariants.{Rights, Refused, RefusedAt}
-use Rattle.rights.specs.declared.answer.Found.{Found}
+use Rattle.evaluate.specs.declared.evaluation.Found.{Found}
+use Rattle.evaluate.proofs.Determined.{same_evaluation}
+use Rattle.rights.specs.Deciding.{Finds, Decides}
 use Rattle.rights.specs.declared.decision.Decision.{Decision}
 
-unsaid_said : (r : Answer) → unsaid Rights Refused RefusedAt (answer_says r) ≡ r
-unfolding unsaid answer_says
-unsaid_said (Rights rights) = refl
-unsaid_said (Refused number) = refl
-unsaid_said (RefusedAt number place) = refl
+pub decide_determined : (d : Decided) (r r' : Result Found Refusal) → Finds d r → Finds d r' → r ≡ r'
+decide_determined d r r' p q = same_evaluation r r' (p.answer ∙ sym q.answer)
 
-same : {said : Said} (r r' : Answer) → answer_says r ≡ said → answer_says r' ≡ said → r ≡ r'
-same r r' p q = same_answer answer_says (unsaid Rights Refused RefusedAt) unsaid_said r r' p q
+-- the same rights and part, or the same refusal; a part of the list is told by its bytes and its place
+pub SameDecision : Result Decision Refusal → Result Decision Refusal → Type 0
+SameDecision (Ok a) (Ok b) = (a.rights ≡ b.rights) × ((a.part.now ≡ b.part.now) × (a.part.ref_ptr ≡ b.part.ref_ptr))
+SameDecision (Ok a) (Err f) = ⊥
+SameDecision (Err e) (Ok b) = ⊥
+SameDecision (Err e) (Err f) = e ≡ f
 
-abbrev found : Answer → ℕ → ℕ → Found
-found answer start size = record { answer = answer; start = start; size = size }
-
-pub decide_determined : (d : Decided) (r r' : Found) → Finds d r → Finds d r' → r ≡ r'
-decide_determined d r r' p q =
-    ap (λ (x : Answer). found x r.start r.size) (same r.answer r'.answer p.answer q.answer)
-    ∙ ap (λ (x : ℕ). found r'.answer x r.size) (p.start ∙ sym q.start)
-    ∙ ap (λ (x : ℕ). found r'.answer r'.start x) (p.size ∙ sym q.size)
-
--- a part of the list is told by its bytes and its place
-pub rights_determined : (d : Decided) (list : Bor (List ℕ)) (r r' : Decision) → Decides d list r → Decides d list r'
-    → (r.answer ≡ r'.answer) × ((r.part.now ≡ r'.part.now) × (r.part.ref_ptr ≡ r'.part.ref_ptr))
-rights_determined d list r r' p q =
-    (same r.answer r'.answer p.answer q.answer, (p.bytes ∙ sym q.bytes, p.place ∙ sym q.place))
+pub rights_determined : (d : Decided) (list : Bor (List ℕ)) (r r' : Result Decision Refusal) → Decides d list r → Decides d list r' → SameDecision r r'
+unfolding SameDecision says_by refusal_says
+rights_determined d list (Ok a) (Ok b) p q = (cc (p.answer, q.answer), (p.bytes ∙ sym q.bytes, p.place ∙ sym q.place))
+rights_determined d list (Ok a) (Err f) p q = absurd (cc (p.answer, q.answer))
+rights_determined d list (Err e) (Ok b) p q = absurd (cc (p.answer, q.answer))
+rights_determined d list (Err e) (Err f) p q = let s : ◌≡◌ {A = Result ℕ Refusal} (Err e) (Err f) = same_number (Err e) (Err f) p.answer q.answer in cc

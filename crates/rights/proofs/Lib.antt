@@ -1,5 +1,6 @@
 pub mod Choosing
 pub mod Inside
+pub mod Handing
 pub mod Alike
 pub mod Determined
 pub mod Local

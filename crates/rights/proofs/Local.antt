@@ -4,6 +4,8 @@ use mathlib.Core.List.{List}
 use mathlib.Core.Bool.{false}
 use Prim.Native.Nat.{ℕ}
 use denote.Ref.{Bor}
+use Rattle.std.specs.Prelude.{Result}
+use Rattle.words.specs.declared.refusal.Refusal.{Refusal}
 use Rattle.words.specs.Realm.{zero_realm, unknown_realm, realm_at, same_realm}
 use Rattle.words.specs.declared.realm.Realm.{Realm}
 use Rattle.evaluate.specs.Evaluation.{Decided, unless_too_many, evaluation}
@@ -13,7 +15,7 @@ use Rattle.rights.specs.Deciding.{by_guard, decided, Decides}
 use Rattle.rights.specs.declared.decision.Decision.{Decision}
 use Rattle.rights.specs.declared.guard.Guard.TheVariants.{List as ByList, Mode}
 use Rattle.rights.proofs.Alike.{mode_alike}
-use Rattle.rights.proofs.Determined.{rights_determined}
+use Rattle.rights.proofs.Determined.{SameDecision, rights_determined}
 
 module _ (groups : List ℕ) (user group : ℕ) (file : File) where
   -- whatever the list, a caller of the zero realm gets what that user gets in the default realm: rights or refusal, place and record
@@ -22,10 +24,10 @@ module _ (groups : List ℕ) (user group : ℕ) (file : File) where
   by_list list = zero_as_default list groups user group file
 
   -- the rights call answers both the same, with the same part
-  pub same_decision : (list : Bor (List ℕ)) (r r' : Decision)
+  pub same_decision : (list : Bor (List ℕ)) (r r' : Result Decision Refusal)
       → Decides (decided list.now groups (of zero_realm user group) file ByList) list r
       → Decides (decided list.now groups (of (realm_at 1 list.now) user group) file ByList) list r'
-      → (r.answer ≡ r'.answer) × ((r.part.now ≡ r'.part.now) × (r.part.ref_ptr ≡ r'.part.ref_ptr))
+      → SameDecision r r'
   same_decision list r r' p q = rights_determined _ list r r' (subst (λ (d : Decided). Decides d list r) (by_list list.now) p) q
 
   -- by a mode: a realm and a local realm may be any others that are the same or not as they are, if both local realms are known or neither

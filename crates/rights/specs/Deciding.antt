@@ -1,19 +1,19 @@
 -- The rights call: its own refusals, its answer and the deciding record.
-use Rattle.std.specs.Prelude.{◌≡◌, List, [], ◌∷◌, ℕ, ◌+◌, ltb, if◌then◌else◌}
+use Rattle.std.specs.Prelude.{◌≡◌, List, [], ◌∷◌, ℕ, ◌+◌, ltb, if◌then◌else◌, Result, IfOk}
 use Rattle.std.specs.Borrow.{Bor}
-use Rattle.words.specs.Said.{Said, done, refused}
+use Rattle.words.specs.Said.{done, refused}
 use Rattle.words.specs.Number.{part}
+use Rattle.words.specs.Refusal.{says_by}
+use Rattle.words.specs.declared.refusal.Refusal.{Refusal}
 use Rattle.words.specs.Realm.{unknown_realm, same_realm}
 use Rattle.words.specs.declared.realm.Realm.{Realm}
-use Rattle.evaluate.specs.Evaluation.{Decided, bare, unless_too_many, list_gives}
+use Rattle.evaluate.specs.Evaluation.{Decided, bare, unless_too_many, list_gives, evaluated_as}
 use Rattle.evaluate.specs.declared.asking.Caller.{Caller}
 use Rattle.evaluate.specs.declared.asking.File.{File}
+use Rattle.evaluate.specs.declared.evaluation.Found.{Found}
 use Rattle.rights.specs.Mode.{mode_rights}
 use Rattle.rights.specs.declared.guard.Guard.{Guard}
 use Rattle.rights.specs.declared.guard.Guard.TheVariants.{List as ByList, Mode}
-use Rattle.rights.specs.declared.answer.Answer.{Answer}
-use Rattle.rights.specs.declared.answer.Answer.TheVariants.{Rights, Refused, RefusedAt}
-use Rattle.rights.specs.declared.answer.Found.{Found}
 use Rattle.rights.specs.declared.decision.Decision.{Decision}
 
 -- with a mode no record decides
@@ -31,20 +31,12 @@ by_guard (Mode realm mode) list groups caller file = by_mode groups caller file 
 unfoldable pub decided : List ℕ → List ℕ → Caller → File → Guard → Decided
 decided list groups caller file guard = unless_too_many groups (by_guard guard list groups caller file)
 
--- what each answer says by 01's numbers
-unfoldable pub answer_says : Answer → Said
-answer_says (Rights rights) = done (rights ∷ [])
-answer_says (Refused number) = refused number []
-answer_says (RefusedAt number place) = refused number (place ∷ [])
-
 -- deciding, with the record as two numbers
-pub record Finds (d : Decided) (r : Found) : Type 0 where
-  pub answer : answer_says r.answer ≡ d.says
-  pub start : r.start ≡ d.start
-  pub size : r.size ≡ d.size
+pub record Finds (d : Decided) (r : Result Found Refusal) : Type 0 where
+  pub answer : evaluated_as r ≡ d
 
 -- deciding, with the record as a part of the list: its bytes, in the list's own memory at its place
-pub record Decides (d : Decided) (list : Bor (List ℕ)) (r : Decision) : Type 0 where
-  pub answer : answer_says r.answer ≡ d.says
-  pub bytes : r.part.now ≡ part d.start d.size list.now
-  pub place : r.part.ref_ptr ≡ (list.ref_ptr.0, d.start + list.ref_ptr.1)
+pub record Decides (d : Decided) (list : Bor (List ℕ)) (r : Result Decision Refusal) : Type 0 where
+  pub answer : says_by (λ decision. decision.rights ∷ []) r ≡ d.says
+  pub bytes : IfOk r (λ decision. decision.part.now ≡ part d.start d.size list.now)
+  pub place : IfOk r (λ decision. decision.part.ref_ptr ≡ (list.ref_ptr.0, d.start + list.ref_ptr.1))

@@ -3,15 +3,15 @@ ghost use Rattle.std.specs.Prelude.{◌≡◌, ◌+◌, ◌≤◌, length};
 ghost use Rattle.words.specs.Number.{part};
 ghost use Rattle.rights.specs.Deciding.{decided, Decides};
 
-use crate::answer::Answer;
 use crate::deciding::decide;
 use crate::guard::Guard;
 use evaluate::{Caller, File};
+use words::Refusal;
 
-// The answer, and the deciding record; empty where no record decides.
+// The rights, and the deciding record; empty where no record decides.
 #[derive(Clone, Copy)]
 pub struct Decision<'a> {
-    pub answer: Answer,
+    pub rights: u8,
     pub part: &'a [u8],
 }
 
@@ -29,12 +29,12 @@ pub fn rights<'a>(
     caller: Caller,
     file: File,
     guard: Guard,
-) -> Decision<'a>
+) -> Result<Decision<'a>, Refusal>
     ensures { Decides (decided list.now groups.now caller file guard) list.entry result }
 {
-    let found = decide(list, groups, caller, file, guard);
-    Decision {
-        answer: found.answer,
+    let found = decide(list, groups, caller, file, guard)?;
+    Ok(Decision {
+        rights: found.rights,
         part: part_at(list, found.start, found.size),
-    }
+    })
 }
