@@ -1,7 +1,7 @@
 -- The rights call: its own refusals, its answer and the deciding record.
 use Rattle.std.specs.Prelude.{◌≡◌, List, [], ◌∷◌, ℕ, ◌+◌, ltb, if◌then◌else◌, Result, IfOk}
 use Rattle.std.specs.Borrow.{Bor}
-use Rattle.words.specs.Said.{done, refused}
+use Rattle.words.specs.Said.{Said, done, refused}
 use Rattle.words.specs.Number.{part}
 use Rattle.words.specs.Refusal.{says_by}
 use Rattle.words.specs.declared.refusal.Refusal.{Refusal}
@@ -12,6 +12,7 @@ use Rattle.evaluate.specs.declared.asking.Caller.{Caller}
 use Rattle.evaluate.specs.declared.asking.File.{File}
 use Rattle.evaluate.specs.declared.evaluation.Found.{Found}
 use Rattle.rights.specs.Mode.{mode_rights}
+use Rattle.rights.specs.declared.access.Access.{Access}
 use Rattle.rights.specs.declared.guard.Guard.{Guard}
 use Rattle.rights.specs.declared.guard.Guard.TheVariants.{List as ByList, Mode}
 use Rattle.rights.specs.declared.decision.Decision.{Decision}
@@ -35,8 +36,16 @@ decided list groups caller file guard = unless_too_many groups (by_guard guard l
 pub record Finds (d : Decided) (r : Result Found Refusal) : Type 0 where
   pub answer : evaluated_as r ≡ d
 
+-- by all that is lent and given
+abbrev pub decided_by : Access → Decided
+decided_by a = decided a.list.now a.groups.now a.caller a.file a.guard
+
+-- the rights, by 01's numbers
+abbrev pub decision_says : Result Decision Refusal → Said
+decision_says = says_by (λ decision. decision.rights ∷ [])
+
 -- deciding, with the record as a part of the list: its bytes, in the list's own memory at its place
 pub record Decides (d : Decided) (list : Bor (List ℕ)) (r : Result Decision Refusal) : Type 0 where
-  pub answer : says_by (λ decision. decision.rights ∷ []) r ≡ d.says
+  pub answer : decision_says r ≡ d.says
   pub bytes : IfOk r (λ decision. decision.part.now ≡ part d.start d.size list.now)
   pub place : IfOk r (λ decision. decision.part.ref_ptr ≡ (list.ref_ptr.0, d.start + list.ref_ptr.1))

@@ -1,7 +1,8 @@
 // The decision by value: the core of the rights call.
 ghost use Rattle.evaluate.specs.Evaluation.{unless_too_many};
-ghost use Rattle.rights.specs.Deciding.{by_mode, decided, Finds};
+ghost use Rattle.rights.specs.Deciding.{by_mode, decided_by, Finds};
 
+use crate::access::Access;
 use crate::guard::Guard;
 use crate::mode::mode_rights;
 use evaluate::{Caller, File, Found, MOST_GROUPS, evaluate};
@@ -37,15 +38,16 @@ fn by_mode(
 
 // The rights of a caller on a file under its guard, or the refusal; the list is looked at only if it is the guard.
 #[tactic(auto, unfolding(crate::specs::Deciding::by_guard, crate::specs::Deciding::decided, evaluate::specs::Evaluation::evaluation))]
-pub fn decide(
-    list: &[u8],
-    groups: &[u32],
-    caller: Caller,
-    file: File,
-    guard: Guard,
-) -> Result<Found, Refusal>
-    ensures { Finds (decided list.now groups.now caller file guard) result }
+pub fn decide(access: Access) -> Result<Found, Refusal>
+    ensures { Finds (decided_by access.entry) result }
 {
+    let Access {
+        list,
+        groups,
+        caller,
+        file,
+        guard,
+    } = access;
     match guard {
         Guard::List => evaluate(list, groups, caller, file),
         Guard::Mode { realm, mode } => by_mode(groups, caller, file, realm, mode),

@@ -1,11 +1,10 @@
 // The rights call, which hands back the deciding record as a part of the caller's own list.
 ghost use Rattle.std.specs.Prelude.{◌≡◌, ◌+◌, ◌≤◌, length};
 ghost use Rattle.words.specs.Number.{part};
-ghost use Rattle.rights.specs.Deciding.{decided, Decides};
+ghost use Rattle.rights.specs.Deciding.{decided_by, Decides};
 
+use crate::access::Access;
 use crate::deciding::decide;
-use crate::guard::Guard;
-use evaluate::{Caller, File};
 use words::Refusal;
 
 // The rights, and the deciding record; empty where no record decides.
@@ -23,18 +22,12 @@ fn part_at<'a>(list: &'a [u8], start: usize, size: usize) -> &'a [u8]
 }
 
 // The rights of a caller on a file under its guard, or the refusal, with the record that decided.
-pub fn rights<'a>(
-    list: &'a [u8],
-    groups: &[u32],
-    caller: Caller,
-    file: File,
-    guard: Guard,
-) -> Result<Decision<'a>, Refusal>
-    ensures { Decides (decided list.now groups.now caller file guard) list.entry result }
+pub fn rights<'a>(access: Access<'a>) -> Result<Decision<'a>, Refusal>
+    ensures { Decides (decided_by access.entry) access.entry.list result }
 {
-    let found = decide(list, groups, caller, file, guard)?;
+    let found = decide(access)?;
     Ok(Decision {
         rights: found.rights,
-        part: part_at(list, found.start, found.size),
+        part: part_at(access.list, found.start, found.size),
     })
 }

@@ -6,7 +6,7 @@ use Rattle.rights.proofs.decision.rights.Goals as goal
 
 pub part_at-requires : goal.part_at-requires
 part_at-requires c =
-    let a = c.args in
+    let a = c.args.access in
     let e = c.decide.ensures in
     omega (arith, decided_fits a.list.now a.groups.now a.caller a.file a.guard, start_is e c.in_ok-found.was, size_is e c.in_ok-found.was)
 
