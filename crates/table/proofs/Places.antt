@@ -10,9 +10,9 @@ use native.Mathlib.Omega.{arith}
 use borrow.Author.Tests.{ltb-true, ltb-false, lt-ltb, le-ltb, eqb-true, eqb-false}
 use lib.Dec.{eqb, ltb}
 use lib.ListN.{length, length-append}
-use Rattle.words.specs.Test.{place_of}
+use Rattle.words.specs.Test.{any_of, place_of}
 use Rattle.words.proofs.Tests.{differ}
-use Rattle.words.proofs.Found.{place_within, place_more}
+use Rattle.words.proofs.Found.{place_within, place_more, any_placed}
 
 -- a place p among n
 unfoldable among : ℕ → ℕ → Option ℕ
@@ -32,21 +32,29 @@ among_more p n h passes = go passes (ltb p n) refl (eqb p n) refl
     go false false q true r = rw (r, q, le-ltb (p + 1) (n + 1) (omega (arith, eqb-true p n r))) refl
     go false false q false r = absurd (eqb-false p n r (omega (arith, h, ltb-false p n q)))
 
+unfoldable value : Option ℕ → ℕ
+value None = 0
+value (Some m) = m
+
+unfoldable there : Option ℕ → Bool
+there None = false
+there (Some m) = true
+
 among_some : (p n i : ℕ) → among p n ≡ Some i → (p ≡ i) × (p < n)
-unfolding among
+unfolding among value there
 among_some p n i = go (ltb p n) refl
   where
-    value : Option ℕ → ℕ
-    value None = 0
-    value (Some m) = m
-
-    there : Option ℕ → Bool
-    there None = false
-    there (Some m) = true
-
     go : (less : Bool) → ltb p n ≡ less → (if less then Some p else None) ≡ Some i → (p ≡ i) × (p < n)
     go true q e = (ap value e, ltb-true p n q)
     go false q e = absurd (differ (sym (ap there e)))
+
+among_none : (p n : ℕ) → among p n ≡ None → ltb p n ≡ false
+unfolding among there
+among_none p n = go (ltb p n) refl
+  where
+    go : (less : Bool) → ltb p n ≡ less → (if less then Some p else None) ≡ None → ltb p n ≡ false
+    go true q e = absurd (differ (ap there e))
+    go false q e = q
 
 module _ {A : Type 0} (test : A → Bool) where
   same_place : (xs : List A) → place_of test xs ≡ position_or_len test xs
@@ -71,3 +79,9 @@ module _ {A : Type 0} (test : A → Bool) where
   position_at xs {i} e =
       let p = among_some (place_of test xs) (length xs) i (sym (position_among xs) ∙ e) in
       (sym p.0, omega (arith, p.0, p.1))
+
+  pub position_some : (xs : List A) {i : ℕ} → position test xs ≡ Some i → any_of test xs ≡ true
+  position_some xs e = let p = position_at xs e in any_placed test xs ∙ rw (← p.0) (lt-ltb _ (length xs) p.1)
+
+  pub position_none : (xs : List A) → position test xs ≡ None → any_of test xs ≡ false
+  position_none xs e = any_placed test xs ∙ among_none (place_of test xs) (length xs) (sym (position_among xs) ∙ e)

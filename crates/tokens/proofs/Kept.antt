@@ -1,5 +1,6 @@
 -- A grant leaves a table in order; so after it the bytes are well formed, or as they were. Assumes nothing.
-use Rattle.std.specs.Prelude.{if◌then◌else◌}
+use Rattle.std.specs.Prelude.{if◌then◌else◌, Result}
+use Rattle.words.specs.declared.refusal.Refusal.{Refusal}
 use mathlib.Core.Path.{◌≡◌, refl}
 use mathlib.Core.Bool.{Bool, true, false, not}
 use mathlib.Core.List.{List, [], ◌∷◌}
@@ -17,7 +18,6 @@ use Rattle.claims.specs.declared.claim.Claim.{Claim}
 use Rattle.table.specs.Table.{Table, limit, is_free, is_in_the_way}
 use Rattle.table.specs.Layout.{Fits}
 use Rattle.table.specs.Form.{well_formed}
-use Rattle.table.specs.declared.reply.Reply.{Reply}
 use Rattle.table.proofs.Means.{InOrder}
 use Rattle.table.proofs.Ordering.{issue_order, left_formed}
 use Rattle.tokens.specs.Grant.{last_number, room_says, request_says, serve_says, grant_says, granted, Grants}
@@ -47,7 +47,7 @@ module _ (claim : Claim) (t : Table) (values : List ℕ) (e : grant_says claim t
   unfolding granted last_number
   grant_order o fits = (issue_order t o (place_of is_free t.slots) claim passed.shaped fits passed.numbers_left, length-set t.slots _ _)
 
-pub grant_formed : {bytes : List ℕ} {claim : Claim} {r : Reply} {after : List ℕ} → Bytes bytes → Fits claim → Grants bytes claim r after
+pub grant_formed : {bytes : List ℕ} {claim : Claim} {r : Result ℕ Refusal} {after : List ℕ} → Bytes bytes → Fits claim → Grants bytes claim r after
     → (well_formed after ≡ true) ⊎ (after ≡ bytes)
 grant_formed {bytes} {claim} all fits g =
     left_formed (grant_says claim) (granted claim) bytes all (λ t o values e. grant_order claim t values e o fits) g.table_after

@@ -3,26 +3,22 @@ use Rattle.std.specs.Prelude.{if◌then◌else◌}
 use mathlib.Core.Path.{◌≡◌, refl, sym, ◌∙◌, ap}
 use mathlib.Core.Bool.{Bool, true, false, cond}
 use mathlib.Core.List.{List, [], ◌∷◌, ◌++◌, map, append_assoc, append-nil}
-use Prim.Native.Nat.{ℕ, ◌+◌, ◌*◌, ◌≤◌, ◌<◌}
+use Prim.Native.Nat.{ℕ, ◌+◌, ◌-◌, ◌*◌, ◌≤◌, ◌<◌}
 use native.Mathlib.Nat.{zero-add, le_of_eq}
 use native.Mathlib.Omega.{arith}
-use borrow.Author.Tests.{ltb-true, ltb-false, ne_eqb}
-use lib.Dec.{ltb}
-use lib.ListN.{length, take, drop, set, length-append, take-append-drop}
-use lib.Seq.{take_all}
+use borrow.Author.Tests.{ne_eqb}
+use lib.ListN.{length, take, drop, set, length-append}
 use Rattle.words.specs.Test.{those}
-use Rattle.words.specs.Number.{part}
 use Rattle.words.specs.Writing.{digits, over, written}
 use Rattle.words.proofs.Tests.{Each, differ, map_append, those_append, those_pass}
 use Rattle.words.proofs.Written.{digits_length, over_length, over_next, over_none, set_over, next_written}
 use Rattle.claims.specs.Rule.{conflict}
 use Rattle.claims.specs.declared.claim.Claim.{Claim}
 use Rattle.table.specs.Table.{Table, is_in_the_way}
-use Rattle.table.specs.Layout.{width, slot_of, count, table_of, joined}
-use Rattle.table.specs.Form.{is_length}
+use Rattle.table.specs.Layout.{width, slot_of, slots_in, table_of, joined}
 use Rattle.table.specs.declared.slot.Slot.{Slot}
 use Rattle.table.specs.declared.slot.Slot.TheVariants.{Free, Held}
-use Rattle.table.proofs.Cuts.{Sized, sized, table_length, table_more}
+use Rattle.table.proofs.Slots.{Passing, cuts, none_passed, one_passed, all_passed}
 use Rattle.tokens.specs.Ask.{entry_bytes, entry_for, in_the_way, list_for}
 use Rattle.tokens.specs.Scan.{entry_if, Lists}
 
@@ -112,22 +108,21 @@ listed : (claim : Claim) (bytes : List ℕ) → list_for claim (table_of bytes) 
 unfolding list_for in_the_way entries
 listed claim bytes = refl
 
--- what was written of the first i slots
-pub record Noted (bytes : List ℕ) (claim : Claim) (out₀ out : List ℕ) (end at i : ℕ) : Type 0 where
-  pub size : Sized bytes
-  pub within : i ≤ count bytes
+-- what was written of the slots that the loop has passed
+pub record Noted (bytes : List ℕ) (claim : Claim) (out₀ out : List ℕ) (end at size : ℕ) (rest : List ℕ) : Type 0 where
+  pub slots : Passing bytes size rest
   pub same : length out ≡ length out₀
   pub room : end ≤ length out₀
   pub whole : end ≡ length (list_for claim (table_of bytes))
-  pub place : at ≡ length (entries claim (take i (table_of bytes).slots))
-  pub noted : out ≡ over 0 (entries claim (take i (table_of bytes).slots)) out₀
+  pub place : at ≡ length (entries claim (map slot_of slots.passed))
+  pub noted : out ≡ over 0 (entries claim (map slot_of slots.passed)) out₀
 
 module _ (bytes : List ℕ) (claim : Claim) (out₀ : List ℕ) (end : ℕ) where
-  pub none_noted : is_length (length bytes) ≡ true → end ≡ length (list_for claim (table_of bytes)) → end ≤ length out₀ → Noted bytes claim out₀ out₀ end 0 0
-  unfolding entries those joined
-  none_noted e whole room = record {
-    size = sized bytes e;
-    within = omega arith;
+  pub none_noted : {size : ℕ} {rest : List ℕ} → width ≤ length bytes → end ≡ length (list_for claim (table_of bytes)) → end ≤ length out₀ → size ≡ width → rest ≡ take (length bytes - width) (drop width bytes)
+      → Noted bytes claim out₀ out₀ end 0 size rest
+  unfolding entries those joined none_passed
+  none_noted h whole room w r = record {
+    slots = none_passed bytes h w r;
     same = refl;
     room = room;
     whole = whole;
@@ -135,56 +130,60 @@ module _ (bytes : List ℕ) (claim : Claim) (out₀ : List ℕ) (end : ℕ) wher
     noted = sym (over_none 0 out₀);
   }
 
-  module _ (out : List ℕ) (at i : ℕ) (so_far : Noted bytes claim out₀ out end at i) where
-    all_entries : count bytes ≤ i → entries claim (take i (table_of bytes).slots) ≡ list_for claim (table_of bytes)
-    unfolding entries list_for in_the_way
-    all_entries h = ap (entries claim) (take_all i (table_of bytes).slots (rw (table_length bytes) h))
+  module _ {out : List ℕ} {at size : ℕ} {rest : List ℕ} (so_far : Noted bytes claim out₀ out end at size rest) where
+    -- the list so far, and what is missing
+    split : (more : List (List ℕ)) → slots_in bytes ≡ so_far.slots.passed ++ more → list_for claim (table_of bytes) ≡ entries claim (map slot_of so_far.slots.passed) ++ entries claim (map slot_of more)
+    unfolding table_of
+    split more e =
+        listed claim bytes ∙ ap (λ (slots : List (List ℕ)). entries claim (map slot_of slots)) e
+        ∙ ap (entries claim) (map_append slot_of so_far.slots.passed more) ∙ entries_append claim (map slot_of so_far.slots.passed) (map slot_of more)
 
-    -- while entries are missing there are slots left, and room for one more
-    pub slots_left : at < end → i < count bytes
-    slots_left h = go (ltb i (count bytes)) refl
-      where
-        go : (b : Bool) → ltb i (count bytes) ≡ b → i < count bytes
-        go true e = ltb-true i (count bytes) e
-        go false e = absurd (omega (arith, so_far.whole, so_far.place, ap length (all_entries (ltb-false i (count bytes) e))))
+    long : end ≡ at + length (entries claim (map slot_of (cuts rest)))
+    long =
+        omega (arith, so_far.whole, so_far.place, ap length (split (cuts rest) so_far.slots.whole), length-append (entries claim (map slot_of so_far.slots.passed)) (entries claim (map slot_of (cuts rest))))
 
-    pub room_left : at < end → at + 13 ≤ length out
+    -- while entries are missing there is room for one more
+    pub room_left : (at ≡ end → ⊥) → at + 13 ≤ length out
     room_left h =
-        omega (arith, so_far.room, so_far.same, so_far.whole, so_far.place, list_length claim (table_of bytes), entries_length claim (take i (table_of bytes).slots))
+        omega (arith, so_far.room, so_far.same, so_far.whole, so_far.place, long, h, list_length claim (table_of bytes), entries_length claim (map slot_of so_far.slots.passed))
 
-    pub one_noted : at < end → {slot : Slot} → slot ≡ slot_of (part (width * (i + 1)) width bytes) → {next : ℕ} {after : List ℕ}
-        → Lists slot claim out at next after → Noted bytes claim out₀ after end next (i + 1)
-    one_noted h {slot} read {next} {after} l =
+    pub one_noted : (slot more : List ℕ) → (rest ≡ slot ++ more) × (length slot ≡ size) → (at ≡ end → ⊥) → {value : Slot} → value ≡ slot_of slot → {next : ℕ} {after : List ℕ} {size' : ℕ}
+        → size' ≡ size → Lists value claim out at next after → Noted bytes claim out₀ after end next size' more
+    unfolding one_passed
+    one_noted slot more given h {value} read {next} {after} w l =
         let kept : length after ≡ length out =
-        ap length l.out_after ∙ over_length at (entry_if claim slot) out (omega (arith, room_left h, entry_short claim slot)) in
-        let inside = slots_left h in
-        let xs = entries claim (take i (table_of bytes).slots) in
-        let more : entries claim (take (i + 1) (table_of bytes).slots) ≡ xs ++ entry_if claim slot =
-        ap (entries claim) (table_more bytes i inside) ∙ entries_append claim (take i (table_of bytes).slots) (slot_of (part (width * (i + 1)) width bytes) ∷ [])
-        ∙ rw (one_entry claim (slot_of (part (width * (i + 1)) width bytes)), ← read) refl in
+        ap length l.out_after ∙ over_length at (entry_if claim value) out (omega (arith, room_left h, entry_short claim value)) in
+        let passed = so_far.slots.passed in
+        let xs = entries claim (map slot_of passed) in
+        let longer : entries claim (map slot_of (passed ++ slot ∷ [])) ≡ xs ++ entry_if claim value =
+        ap (entries claim) (map_append slot_of passed (slot ∷ [])) ∙ entries_append claim (map slot_of passed) (slot_of slot ∷ [])
+        ∙ rw (one_entry claim (slot_of slot), ← read) refl in
         let fits : 0 + at ≤ length out₀ = omega (arith, room_left h, so_far.same) in
-        let joint : over at (entry_if claim slot) (over 0 xs out₀) ≡ over 0 (xs ++ entry_if claim slot) out₀ =
-        ap (λ (n : ℕ). over n (entry_if claim slot) (over 0 xs out₀)) (sym (zero-add at)) ∙ over_next 0 at xs (entry_if claim slot) out₀ (sym so_far.place) fits in
+        let joint : over at (entry_if claim value) (over 0 xs out₀) ≡ over 0 (xs ++ entry_if claim value) out₀ =
+        ap (λ (n : ℕ). over n (entry_if claim value) (over 0 xs out₀)) (sym (zero-add at)) ∙ over_next 0 at xs (entry_if claim value) out₀ (sym so_far.place) fits in
         record {
-          size = so_far.size;
-          within = omega arith;
+          slots = one_passed so_far.slots slot more given w;
           same = kept ∙ so_far.same;
           room = so_far.room;
           whole = so_far.whole;
-          place = l.end ∙ rw (more, length-append xs (entry_if claim slot), so_far.place) refl;
-          noted = l.out_after ∙ rw (so_far.noted, more) joint;
+          place = l.end ∙ rw (longer, length-append xs (entry_if claim value), so_far.place) refl;
+          noted = l.out_after ∙ rw (so_far.noted, longer) joint;
         }
 
-    pub all_noted : end ≤ at → out ≡ over 0 (list_for claim (table_of bytes)) out₀
+    -- all entries are there, or all slots are passed
+    pub all_noted : at ≡ end → out ≡ over 0 (list_for claim (table_of bytes)) out₀
     all_noted h =
-        let split : list_for claim (table_of bytes) ≡ entries claim (take i (table_of bytes).slots) ++ entries claim (drop i (table_of bytes).slots) = whole_list in
-        let none : length (entries claim (drop i (table_of bytes).slots)) ≡ 0 =
-        omega (arith, so_far.whole, so_far.place, ap length split, length-append (entries claim (take i (table_of bytes).slots)) (entries claim (drop i (table_of bytes).slots))) in
-        so_far.noted ∙ rw (split, nothing (entries claim (drop i (table_of bytes).slots)) none) (ap (λ (xs : List ℕ). over 0 xs out₀) (sym (append-nil (entries claim (take i (table_of bytes).slots)))))
+        let more = entries claim (map slot_of (cuts rest)) in
+        let none : length more ≡ 0 = omega (arith, long, h) in
+        so_far.noted
+        ∙ rw (split (cuts rest) so_far.slots.whole, nothing more none) (ap (λ (xs : List ℕ). over 0 xs out₀) (sym (append-nil (entries claim (map slot_of so_far.slots.passed)))))
       where
-        whole_list : list_for claim (table_of bytes) ≡ entries claim (take i (table_of bytes).slots) ++ entries claim (drop i (table_of bytes).slots)
-        whole_list = listed claim bytes ∙ ap (entries claim) (sym (take-append-drop i (table_of bytes).slots)) ∙ entries_append claim (take i (table_of bytes).slots) (drop i (table_of bytes).slots)
-
         nothing : (xs : List ℕ) → length xs ≡ 0 → xs ≡ []
         nothing [] e = refl
         nothing (x ∷ xs) e = absurd (omega arith)
+
+    pub all_slots : length rest < size → out ≡ over 0 (list_for claim (table_of bytes)) out₀
+    unfolding table_of
+    all_slots h =
+        so_far.noted
+        ∙ ap (λ (xs : List ℕ). over 0 xs out₀) (sym (listed claim bytes ∙ ap (λ (slots : List (List ℕ)). entries claim (map slot_of slots)) (all_passed so_far.slots h)))

@@ -1,4 +1,5 @@
 -- A grant with the widest range, by what the code finds. Assumes nothing.
+use Rattle.std.specs.Prelude.{Ok, Err}
 use mathlib.Core.Path.{◌≡◌, refl, sym, ◌∙◌, ap, subst}
 use mathlib.Core.Bool.{false}
 use mathlib.Core.List.Memᴰ
@@ -7,7 +8,9 @@ use Prim.Native.Nat.{ℕ, ◌≤◌}
 use borrow.Author.Tests.{eqb-true, not-false}
 use lib.Dec.{eqb}
 use Rattle.words.specs.Test.{any_of}
-use Rattle.words.specs.Said.{is_done}
+use Rattle.words.specs.Said.{done, is_done}
+use Rattle.words.specs.Refusal.{refusal_says, says_by}
+use Rattle.words.specs.declared.refusal.Refusal.{Refusal}
 use Rattle.words.specs.Number.{Bytes}
 use Rattle.words.proofs.Tests.{differ, Each, none_any}
 use Rattle.words.proofs.Left.{left_whole}
@@ -17,8 +20,7 @@ use Rattle.claims.specs.declared.claim.Claim.{Claim}
 use Rattle.claims.proofs.Ranges.{in_order}
 use Rattle.table.specs.Table.{Table, limit, is_in_the_way}
 use Rattle.table.specs.Layout.{table_of, bytes_of}
-use Rattle.table.specs.Reply.{reply_says}
-use Rattle.table.specs.declared.reply.Reply.TheVariants.{Granted, Refused}
+use Rattle.table.specs.Call.{says_of}
 use Rattle.table.specs.declared.slot.Slot.{Slot}
 use Rattle.table.specs.declared.slot.Slot.TheVariants.{Held}
 use Rattle.table.proofs.Means.{InOrder, Ordered, ordered, token_shaped}
@@ -28,7 +30,7 @@ use Rattle.widest.specs.declared.range.Range.{Range}
 use Rattle.widest.proofs.Largest.{Token, widened_widest}
 use Rattle.tokens.specs.Grant.{grant_says, granted}
 use Rattle.tokens.specs.Widest.{with_more, GrantsWidest}
-use Rattle.tokens.specs.Scan.{Refuses, Issues}
+use Rattle.tokens.specs.Scan.{Issues}
 use Rattle.tokens.proofs.Kept.{Passed}
 use Rattle.tokens.proofs.Issued.{done_formed, done_passed, granted_length}
 
@@ -59,27 +61,25 @@ module _ (t : Table) (order : InOrder t) (claim : Claim) (ends : claim.last ≤ 
   pub passed_widest : Widest t claim (widened claim t).first (widened claim t).last
   passed_widest = widened_widest t claim (in_order claim (limit t) p.shaped) ends in_range
 
--- by the refusal that grant has
-module _ (bytes : List ℕ) (claim : Claim) {number : ℕ} (refusal : Refuses bytes claim number) where
-  pub refused_so : (number ≡ 0 → ⊥) → GrantsWidest bytes claim (Refused number) bytes
-  unfolding reply_says with_more is_done
-  refused_so n =
-      let e = refusal.some n in
-      record {
-        outcome = record {
-          first = 0;
-          last = 0;
-          widest = λ d. absurd (differ (sym d ∙ rw e refl));
-          answer = rw e refl;
-          table_after = sym (left_refused (grant_says claim) bytes (granted (with_range claim 0 0)) e);
-        };
-      }
+-- refused or not, as grant is
+module _ (bytes : List ℕ) (claim : Claim) where
+  pub refused_so : {refusal : Refusal} → says_of (grant_says claim) bytes ≡ refusal_says refusal → GrantsWidest bytes claim (Err refusal) bytes
+  unfolding says_by refusal_says with_more is_done
+  refused_so e = record {
+    outcome = record {
+      first = 0;
+      last = 0;
+      widest = λ d. absurd (differ (sym d ∙ rw e refl));
+      answer = rw e refl;
+      table_after = sym (left_refused (grant_says claim) bytes (granted (with_range claim 0 0)) e);
+    };
+  }
 
-  pub widest_so : number ≡ 0 → Bytes bytes → claim.last ≤ last_byte → (range : Range) → over claim range ≡ widened claim (table_of bytes) → {wide : Claim} → Ranges claim range wide
-      → {r : ℕ} {after : List ℕ} → Issues bytes wide r after → GrantsWidest bytes claim (Granted r range.first range.last) after
-  unfolding reply_says with_more
-  widest_so z all ends range found ranged i =
-      let e = refusal.none z in
+  pub widest_so : says_of (grant_says claim) bytes ≡ done ((table_of bytes).next ∷ []) → Bytes bytes → claim.last ≤ last_byte → (range : Range) → over claim range ≡ widened claim (table_of bytes)
+      → {wide : Claim} → Ranges claim range wide → {r : ℕ} {after : List ℕ} → Issues bytes wide r after
+      → GrantsWidest bytes claim (Ok (record { number = r; first = range.first; last = range.last })) after
+  unfolding says_by with_more
+  widest_so e all ends range found ranged i =
       let well = done_formed bytes claim e in
       let t = table_of bytes in
       record {

@@ -1,15 +1,15 @@
 -- Ask changes no table. It writes, in slot order, one entry per token that conflicts; its answer is their count.
-use Rattle.std.specs.Prelude.{◌≡◌, List, [], ◌∷◌, ◌++◌, map, ℕ, ltb, length, if◌then◌else◌}
+use Rattle.std.specs.Prelude.{◌≡◌, Result, List, [], ◌∷◌, ◌++◌, map, ℕ, ltb, length, if◌then◌else◌}
 use Rattle.words.specs.Test.{those}
 use Rattle.words.specs.Said.{Said, done, refused, and_then, left}
+use Rattle.words.specs.Refusal.{number_says}
+use Rattle.words.specs.declared.refusal.Refusal.{Refusal}
 use Rattle.words.specs.Writing.{digits}
 use Rattle.claims.specs.Rule.{conflict}
 use Rattle.claims.specs.declared.claim.Claim.{Claim}
 use Rattle.table.specs.Table.{Table, is_in_the_way}
 use Rattle.table.specs.Layout.{joined, table_of}
-use Rattle.table.specs.Reply.{reply_says}
 use Rattle.table.specs.Call.{says_of}
-use Rattle.table.specs.declared.reply.Reply.{Reply}
 use Rattle.table.specs.declared.slot.Slot.{Slot}
 use Rattle.table.specs.declared.slot.Slot.TheVariants.{Free, Held}
 use Rattle.tokens.specs.Grant.{request_says}
@@ -40,6 +40,6 @@ module _ (claim : Claim) where
   ask_says out t = and_then (request_says claim t) (list_says out t)
 
 -- asking what is in the way
-pub record Asks (bytes : List ℕ) (claim : Claim) (out : List ℕ) (r : Reply) (after : List ℕ) : Type 0 where
-  pub answer : reply_says r ≡ says_of (ask_says claim out) bytes
+pub record Asks (bytes : List ℕ) (claim : Claim) (out : List ℕ) (r : Result ℕ Refusal) (after : List ℕ) : Type 0 where
+  pub answer : number_says r ≡ says_of (ask_says claim out) bytes
   pub out_after : after ≡ left (says_of (ask_says claim out) bytes) (list_for claim (table_of bytes)) out

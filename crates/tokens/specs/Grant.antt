@@ -1,13 +1,13 @@
 -- Grant takes the lowest free slot, gives it the next number, which is the answer, and raises next by one.
-use Rattle.std.specs.Prelude.{◌≡◌, not, List, [], ◌∷◌, ℕ, eqb, if◌then◌else◌}
+use Rattle.std.specs.Prelude.{◌≡◌, Result, not, List, [], ◌∷◌, ℕ, eqb, if◌then◌else◌}
 use Rattle.words.specs.Test.{any_of, place_of}
 use Rattle.words.specs.Said.{Said, done, refused, and_then}
+use Rattle.words.specs.Refusal.{number_says}
+use Rattle.words.specs.declared.refusal.Refusal.{Refusal}
 use Rattle.claims.specs.Claim.{malformed}
 use Rattle.claims.specs.declared.claim.Claim.{Claim}
 use Rattle.table.specs.Table.{Table, limit, issue, is_free, is_in_the_way}
-use Rattle.table.specs.Reply.{reply_says}
 use Rattle.table.specs.Call.{says_of, left_of}
-use Rattle.table.specs.declared.reply.Reply.{Reply}
 
 -- this number is never given
 unfoldable pub last_number : ℕ
@@ -38,6 +38,6 @@ module _ (claim : Claim) where
   granted t = issue t (place_of is_free t.slots) claim
 
 -- granting a token
-pub record Grants (bytes : List ℕ) (claim : Claim) (r : Reply) (after : List ℕ) : Type 0 where
-  pub answer : reply_says r ≡ says_of (grant_says claim) bytes
+pub record Grants (bytes : List ℕ) (claim : Claim) (r : Result ℕ Refusal) (after : List ℕ) : Type 0 where
+  pub answer : number_says r ≡ says_of (grant_says claim) bytes
   pub table_after : after ≡ left_of (grant_says claim) (granted claim) bytes

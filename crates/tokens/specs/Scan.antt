@@ -1,7 +1,9 @@
 -- Contracts of the crate's own functions: a grant's refusal, its token, and the entries of ask's list.
-use Rattle.std.specs.Prelude.{◌≡◌, true, List, [], ◌∷◌, ◌≢◌, ℕ, ◌+◌, ◌<◌, length, if◌then◌else◌}
+use Rattle.std.specs.Prelude.{◌≡◌, true, Result, IfOk, IfErr, List, [], ◌∷◌, ◌≢◌, ℕ, ◌+◌, ◌<◌, length, if◌then◌else◌}
 use Rattle.words.specs.Test.{place_of}
-use Rattle.words.specs.Said.{done, refused}
+use Rattle.words.specs.Said.{done}
+use Rattle.words.specs.Refusal.{refusal_says}
+use Rattle.words.specs.declared.refusal.Refusal.{Refusal}
 use Rattle.words.specs.Writing.{over}
 use Rattle.claims.specs.declared.claim.Claim.{Claim}
 use Rattle.table.specs.Table.{is_free, is_in_the_way}
@@ -12,17 +14,17 @@ use Rattle.table.specs.declared.slot.Slot.{Slot}
 use Rattle.tokens.specs.Grant.{last_number, grant_says, granted}
 use Rattle.tokens.specs.Ask.{entry_for}
 
--- a grant's refusal by its number, or 0
-pub record Refuses (bytes : List ℕ) (claim : Claim) (r : ℕ) : Type 0 where
-  pub none : r ≡ 0 → says_of (grant_says claim) bytes ≡ done ((table_of bytes).next ∷ [])
-  pub some : r ≢ 0 → says_of (grant_says claim) bytes ≡ refused r []
-
 -- the lowest free slot of a well-formed table, and a number left
 pub record HasRoom (bytes : List ℕ) (free : ℕ) : Type 0 where
   pub formed : well_formed bytes ≡ true
   pub lowest : free ≡ place_of is_free (table_of bytes).slots
   pub inside : free < count bytes
   pub unspent : (table_of bytes).next ≢ last_number
+
+-- the free slot that a grant takes, or its refusal
+pub record Checks (bytes : List ℕ) (claim : Claim) (r : Result ℕ Refusal) : Type 0 where
+  pub ok : IfOk r (λ free. HasRoom bytes free × (says_of (grant_says claim) bytes ≡ done ((table_of bytes).next ∷ [])))
+  pub err : IfErr r (λ refusal. says_of (grant_says claim) bytes ≡ refusal_says refusal)
 
 pub record Issues (bytes : List ℕ) (claim : Claim) (r : ℕ) (after : List ℕ) : Type 0 where
   pub answer : r ≡ (table_of bytes).next

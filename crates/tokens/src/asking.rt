@@ -1,16 +1,14 @@
 // Asking what is in the way of a request.
-ghost use Rattle.std.specs.Prelude.{◌≡◌, true, ◌+◌, ◌≤◌, length};
+ghost use Rattle.std.specs.Prelude.{◌≡◌, ◌+◌, ◌≤◌, length};
 ghost use Rattle.words.specs.Writing.{over};
-ghost use Rattle.table.specs.Layout.{table_of};
-ghost use Rattle.table.specs.Form.{is_length};
+ghost use Rattle.table.specs.Layout.{width, table_of};
 ghost use Rattle.table.specs.declared.slot.Slot.TheVariants.{Held};
 ghost use Rattle.tokens.specs.Ask.{entry_bytes, list_for, Asks};
 ghost use Rattle.tokens.specs.Scan.{Lists};
 
 use claims::{Claim, conflict, is_malformed};
-use surveys::survey;
-use table::refusal::{LIST_TOO_SHORT, MALFORMED, NOT_WELL_FORMED};
-use table::{LIMIT, Reply, Slot, WIDTH, read_slot};
+use surveys::{Seen, survey};
+use table::{LIMIT, Refusal, Slot, WIDTH, read_slot};
 use writes::{write_number16, write_number64};
 
 // An entry takes so many bytes.
@@ -54,38 +52,30 @@ fn list_slot(out: &mut [u8], at: usize, slot: Slot, claim: Claim) -> usize
 
 // All entries, up to the last one's end.
 fn list_all(table: &[u8], claim: Claim, out: &mut [u8], end: usize)
-    requires { (is_length (length table.now) ≡ true) × (end ≡ length (list_for claim (table_of table.now))) × (end ≤ length out.old) }
+    requires { (width ≤ length table.now) × (end ≡ length (list_for claim (table_of table.now))) × (end ≤ length out.old) }
     ensures { out.new ≡ over 0 (list_for claim (table_of table.now)) out.old }
 {
     let mut at = 0;
-    let mut i = 0;
-    while at < end {
-        let from = WIDTH * (i + 1);
-        at = list_slot(out, at, read_slot(&table[from..from + WIDTH]), claim);
-        i += 1;
+    for slot in table[WIDTH..].chunks_exact(WIDTH) {
+        if at == end {
+            break;
+        }
+        at = list_slot(out, at, read_slot(slot), claim);
     }
 }
 
 // Each token in the way is listed in slot order; the answer is their count.
-pub fn ask(table: &[u8], claim: Claim, out: &mut [u8]) -> Reply
+pub fn ask(table: &[u8], claim: Claim, out: &mut [u8]) -> Result<usize, Refusal>
     ensures { Asks table.now claim out.old result out.new }
 {
-    let seen = survey(table, claim);
-    if !seen.formed {
-        return Reply::Refused {
-            number: NOT_WELL_FORMED,
-        };
-    }
+    let Seen { conflicts, free: _ } = survey(table, claim)?;
     if is_malformed(claim, LIMIT) {
-        return Reply::Refused { number: MALFORMED };
+        return Err(Refusal::Malformed);
     }
-    let end = ENTRY * seen.conflicts;
+    let end = ENTRY * conflicts;
     if out.len() < end {
-        return Reply::RefusedWith {
-            number: LIST_TOO_SHORT,
-            value: seen.conflicts as u64,
-        };
+        return Err(Refusal::ListTooShort { count: conflicts });
     }
     list_all(table, claim, out, end);
-    Reply::Value(seen.conflicts as u64)
+    Ok(conflicts)
 }

@@ -1,42 +1,49 @@
 // Granting a token.
-ghost use Rattle.surveys.specs.Survey.{Surveys};
+ghost use Rattle.std.specs.Prelude.{◌≡◌, true};
+ghost use Rattle.table.specs.Layout.{table_of};
+ghost use Rattle.table.specs.Form.{well_formed};
+ghost use Rattle.surveys.specs.Survey.{Saw};
 ghost use Rattle.tokens.specs.Grant.{Grants};
 ghost use Rattle.tokens.specs.Widest.{GrantsWidest};
-ghost use Rattle.tokens.specs.Scan.{Refuses, HasRoom, Issues};
+ghost use Rattle.tokens.specs.Scan.{Checks, HasRoom, Issues};
 
 use claims::{Claim, is_malformed};
 use store::write_slot;
-use surveys::{Seen, survey, survey_wide};
-use table::refusal::{CONFLICT, MALFORMED, NO_FREE_SLOT, NOT_WELL_FORMED, NUMBERS_SPENT};
-use table::{LIMIT, NEXT, Reply, Slot, WIDTH};
+use surveys::{Seen, SeenWide, survey, survey_wide};
+use table::{LIMIT, NEXT, Refusal, Slot, WIDTH};
 use widest::with_range;
 use words::number64;
 use writes::write_number64;
 
 // The last number is never given.
-const LAST_NUMBER: u64 = 18446744073709551615;
+const LAST_NUMBER: u64 = u64::MAX;
 
-// A grant's refusal by its number, in the order of the paper; 0 where there is none.
-fn refusal(table: &[u8], seen: Seen, claim: Claim) -> u8
-    requires { Surveys table.now claim seen }
-    ensures { Refuses table.now claim result }
+// A token's number, and its range.
+#[derive(Clone, Copy)]
+pub struct Granted {
+    pub number: u64,
+    pub first: u64,
+    pub last: u64,
+}
+
+// The free slot that a grant takes, or its refusal, in the order of the paper.
+fn check(table: &[u8], seen: Seen, claim: Claim) -> Result<usize, Refusal>
+    requires { (well_formed table.now ≡ true) × Saw (table_of table.now).slots claim seen }
+    ensures { Checks table.now claim result }
 {
-    if !seen.formed {
-        return NOT_WELL_FORMED;
-    }
     if is_malformed(claim, LIMIT) {
-        return MALFORMED;
+        return Err(Refusal::Malformed);
     }
     if seen.conflicts != 0 {
-        return CONFLICT;
+        return Err(Refusal::Conflict);
     }
-    if table.len() / WIDTH - 1 <= seen.free {
-        return NO_FREE_SLOT;
-    }
+    let Some(free) = seen.free else {
+        return Err(Refusal::NoFreeSlot);
+    };
     if number64(table, NEXT) == LAST_NUMBER {
-        return NUMBERS_SPENT;
+        return Err(Refusal::NumbersSpent);
     }
-    0
+    Ok(free)
 }
 
 // The claim at the lowest free slot under the next number, which is the answer.
@@ -58,33 +65,24 @@ fn issue(table: &mut [u8], free: usize, claim: Claim) -> u64
 }
 
 // The answer is the new token's number.
-pub fn grant(table: &mut [u8], claim: Claim) -> Reply
+pub fn grant(table: &mut [u8], claim: Claim) -> Result<u64, Refusal>
     ensures { Grants table.old claim result table.new }
 {
-    let seen = survey(table, claim);
-    let refused = refusal(table, seen, claim);
-    if refused != 0 {
-        return Reply::Refused { number: refused };
-    }
-    let number = issue(table, seen.free, claim);
-    Reply::Value(number)
+    let seen = survey(table, claim)?;
+    let free = check(table, seen, claim)?;
+    Ok(issue(table, free, claim))
 }
 
-// As grant, with the widest range; the answer is the new token's number and that range.
-pub fn grant_widest(table: &mut [u8], claim: Claim) -> Reply
+// As grant, with the widest range.
+pub fn grant_widest(table: &mut [u8], claim: Claim) -> Result<Granted, Refusal>
     ensures { GrantsWidest table.old claim result table.new }
 {
-    let told = survey_wide(table, claim);
-    let seen = told.seen;
-    let refused = refusal(table, seen, claim);
-    if refused != 0 {
-        return Reply::Refused { number: refused };
-    }
-    let range = told.range;
-    let number = issue(table, seen.free, with_range(claim, range));
-    Reply::Granted {
+    let SeenWide { seen, range } = survey_wide(table, claim)?;
+    let free = check(table, seen, claim)?;
+    let number = issue(table, free, with_range(claim, range));
+    Ok(Granted {
         number,
         first: range.first,
         last: range.last,
-    }
+    })
 }

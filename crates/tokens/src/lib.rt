@@ -5,4 +5,4 @@ mod asking;
 mod granting;
 
 pub use asking::ask;
-pub use granting::{grant, grant_widest};
+pub use granting::{Granted, grant, grant_widest};

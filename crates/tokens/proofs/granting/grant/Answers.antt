@@ -1,11 +1,14 @@
-use Rattle.tokens.proofs.Issued.{done_room, refused_so, granted_so}
+use borrow.Author.Rules.{rules}
+use Rattle.table.proofs.Calls.{ill_refused}
+use Rattle.tokens.specs.Grant.{grant_says}
+use Rattle.tokens.proofs.Issued.{refused_so, granted_so}
 use Rattle.tokens.proofs.granting.grant.Goals as goal
 
-pub returns-then-refused-ne0 : goal.returns-then-refused-ne0
-returns-then-refused-ne0 c = refused_so c.args.table.now c.args.claim c.refusal-refused.ensures c.if-refused-ne0.true
+pub returns-in_err-seen : goal.returns-in_err-seen
+returns-in_err-seen c = let e = refused_so c.args.table.now c.args.claim (ill_refused (grant_says c.args.claim) c.args.table.now c.in_err-seen.ensures.ill.0 c.in_err-seen.ensures.ill.1) in search rules
 
-pub issue-number-requires : goal.issue-number-requires
-issue-number-requires c = done_room c.args.table.now c.args.claim (c.refusal-refused.ensures.none c.if-refused-ne0.false) c.survey-seen.ensures
+pub returns-in_err-free : goal.returns-in_err-free
+returns-in_err-free c = let e = refused_so c.args.table.now c.args.claim c.in_err-free.ensures.err in search rules
 
 pub returns : goal.returns
-returns c = granted_so c.args.table.now c.args.claim c.refusal-refused.ensures c.if-refused-ne0.false c.issue-number.ensures
+returns c = granted_so c.args.table.now c.args.claim c.in_ok-free.ensures.ok.1 c.issue.ensures
