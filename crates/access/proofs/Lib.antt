@@ -1,4 +1,5 @@
 pub mod Masks
 pub mod Sufficient
+pub mod Verdicts
 pub mod Determined
 pub mod Local

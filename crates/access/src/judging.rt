@@ -18,7 +18,7 @@ fn sufficient(rights: u8, needs: u8) -> Result<(), Refusal>
 
 // Whether the caller may claim the types of the file.
 pub fn judge(access: Access, types: u16) -> Result<(), Refusal>
-    ensures { Judges (access_in access) types result }
+    ensures { Judges (access_in access.entry) types result }
 {
     let found = decide(access)?;
     sufficient(found.rights, needed_rights(types, access.file.dir))

@@ -8,7 +8,7 @@ use Rattle.words.specs.declared.refusal.Refusal.{Refusal}
 use Rattle.words.proofs.Refusals.{same_number}
 use Rattle.tokens.specs.Widest.{widest_says}
 use Rattle.tokens.specs.declared.granting.Granted.{Granted}
-use Rattle.tokens.proofs.Determined.{widened_determined, same_granted}
+use Rattle.tokens.proofs.Determined.{widened_determined, same_widest}
 use Rattle.access.specs.Access.{Access}
 use Rattle.desk.specs.Grant.{grant_says, Grants}
 use Rattle.desk.specs.Widest.{GrantsWidest}
@@ -22,7 +22,7 @@ module _ (bytes : List ℕ) (claim : Claim) (access : Access) where
       → (r ≡ r') × (after ≡ after')
   grant_widest_determined r r' after after' p q =
       let w = widened_determined (grant_says claim access) bytes claim (widest_says r) (widest_says r') after after' p.outcome q.outcome in
-      (same_granted r r' w.0 refl, w.1)
+      (same_widest r r' w.0 refl, w.1)
 
   pub ask_determined : (out : List ℕ) (r r' : Result ℕ Refusal) (after after' : List ℕ) → Asks bytes claim access out r after → Asks bytes claim access out r' after'
       → (r ≡ r') × (after ≡ after')

@@ -10,7 +10,7 @@ use words::Refusal;
 
 // Each token in the way is listed in slot order; the answer is their count.
 pub fn ask(table: &[u8], claim: Claim, access: Access, out: &mut [u8]) -> Result<usize, Refusal>
-    ensures { Asks table.now claim (access_in access) out.old result out.new }
+    ensures { Asks table.now claim (access_in access.entry) out.old result out.new }
 {
     if let Err(verdict) = judge(access, claim.types) {
         return Err(first_refusal(table, claim, verdict));

@@ -10,7 +10,7 @@ use words::Refusal;
 
 // The answer is the new token's number.
 pub fn grant(table: &mut [u8], claim: Claim, access: Access) -> Result<u64, Refusal>
-    ensures { Grants table.old claim (access_in access) result table.new }
+    ensures { Grants table.old claim (access_in access.entry) result table.new }
 {
     if let Err(verdict) = judge(access, claim.types) {
         return Err(first_refusal(table, claim, verdict));

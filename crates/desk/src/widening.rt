@@ -11,7 +11,7 @@ use words::Refusal;
 
 // As grant, with the widest range; the answer is the new token's number and that range.
 pub fn grant_widest(table: &mut [u8], claim: Claim, access: Access) -> Result<Granted, Refusal>
-    ensures { GrantsWidest table.old claim (access_in access) result table.new }
+    ensures { GrantsWidest table.old claim (access_in access.entry) result table.new }
 {
     if let Err(verdict) = judge(access, claim.types) {
         return Err(first_refusal(table, claim, verdict));

@@ -9,7 +9,7 @@ ghost use Rattle.tokens.specs.Scan.{Lists};
 use claims::{Claim, conflict, is_malformed};
 use surveys::{Seen, survey};
 use table::{LIMIT, Refusal, Slot, WIDTH, read_slot};
-use writes::{write_number16, write_number64};
+use writes::write_number;
 
 // An entry takes so many bytes.
 const ENTRY: usize = 13;
@@ -19,9 +19,9 @@ fn write_entry(out: &mut [u8], at: usize, number: u64, host: u16, types: u16)
     ensures { out.new ≡ over at (entry_bytes number host types) out.old }
 {
     out[at] = 3;
-    write_number64(out, at + 1, number);
-    write_number16(out, at + 9, host);
-    write_number16(out, at + 11, types);
+    write_number(out, at + 1, number);
+    write_number(out, at + 9, host);
+    write_number(out, at + 11, types);
 }
 
 // The entry of a token, where it is in the way; the place after it.

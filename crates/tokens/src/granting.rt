@@ -12,8 +12,8 @@ use store::write_slot;
 use surveys::{Seen, SeenWide, survey, survey_wide};
 use table::{LIMIT, NEXT, Refusal, Slot, WIDTH};
 use widest::with_range;
-use words::number64;
-use writes::write_number64;
+use words::number_at;
+use writes::write_number;
 
 // The last number is never given.
 const LAST_NUMBER: u64 = u64::MAX;
@@ -40,7 +40,7 @@ fn check(table: &[u8], seen: Seen, claim: Claim) -> Result<usize, Refusal>
     let Some(free) = seen.free else {
         return Err(Refusal::NoFreeSlot);
     };
-    if number64(table, NEXT) == LAST_NUMBER {
+    if number_at::<u64>(table, NEXT) == LAST_NUMBER {
         return Err(Refusal::NumbersSpent);
     }
     Ok(free)
@@ -51,7 +51,7 @@ fn issue(table: &mut [u8], free: usize, claim: Claim) -> u64
     requires { HasRoom table.old free }
     ensures { Issues table.old claim result table.new }
 {
-    let next = number64(table, NEXT);
+    let next = number_at(table, NEXT);
     let at = WIDTH * (free + 1);
     write_slot(
         &mut table[at..at + WIDTH],
@@ -60,7 +60,7 @@ fn issue(table: &mut [u8], free: usize, claim: Claim) -> u64
             claim,
         },
     );
-    write_number64(table, NEXT, next + 1);
+    write_number(table, NEXT, next + 1);
     next
 }
 

@@ -10,10 +10,10 @@ returns-then-seen-ne0 c = in_conflict c.args.table.now c.args.claim c.requires c
 pub returns-in_default : goal.returns-in_default
 returns-in_default c = no_room c.args.table.now c.args.claim c.requires c.is_malformed.ensures.answer c.if-is_malformed.false c.if-seen-ne0.false c.in_default.is
 
-pub returns-then-number64-eq-LAST_NUMBER : goal.returns-then-number64-eq-LAST_NUMBER
-returns-then-number64-eq-LAST_NUMBER c =
-    numbers_spent c.args.table.now c.args.claim c.requires c.is_malformed.ensures.answer c.if-is_malformed.false c.if-seen-ne0.false c.in-Some.is c.number64.ensures.answer c.if-number64-eq-LAST_NUMBER.true
+pub returns-then-number_at-eq-LAST_NUMBER : goal.returns-then-number_at-eq-LAST_NUMBER
+returns-then-number_at-eq-LAST_NUMBER c =
+    numbers_spent c.args.table.now c.args.claim c.requires c.is_malformed.ensures.answer c.if-is_malformed.false c.if-seen-ne0.false c.in-Some.is c.number_at.ensures.answer c.if-number_at-eq-LAST_NUMBER.true
 
 pub returns : goal.returns
 returns c =
-    has_room c.args.table.now c.args.claim c.requires c.is_malformed.ensures.answer c.if-is_malformed.false c.if-seen-ne0.false c.in-Some.is c.number64.ensures.answer c.if-number64-eq-LAST_NUMBER.false
+    has_room c.args.table.now c.args.claim c.requires c.is_malformed.ensures.answer c.if-is_malformed.false c.if-seen-ne0.false c.in-Some.is c.number_at.ensures.answer c.if-number_at-eq-LAST_NUMBER.false

@@ -8,7 +8,7 @@ use Rattle.tokens.proofs.Issued.{not_last, issued}
 use Rattle.tokens.proofs.granting.issue.Goals as goal
 
 pub overflow_add-next : goal.overflow_add-next
-overflow_add-next c = let t = not_last c.args.table.now c.requires c.number64-next.ensures.answer in omega arith
+overflow_add-next c = let t = not_last c.args.table.now c.requires c.number_at-next.ensures.answer in omega arith
 
 pub returns : goal.returns
-returns c = let w = (form_size c.args.table.now c.requires.formed).whole in let t = c.requires.inside in issued c.args.table.now c.args.claim c.requires (λ k. (c.slice_known-1.given k).fits) c.number64-next.ensures.answer (lent_written (width * (c.args.free + 1)) c.args.table.now (omega arith) (Held c.number64-next.result c.args.claim) _ c.write_slot.ensures.slot_after) c.write_number64.ensures.bytes_after
+returns c = let w = (form_size c.args.table.now c.requires.formed).whole in let t = c.requires.inside in issued c.args.table.now c.args.claim c.requires (λ k. (c.slice_known-1.given k).fits) c.number_at-next.ensures.answer (lent_written (width * (c.args.free + 1)) c.args.table.now (omega arith) (Held c.number_at-next.result c.args.claim) _ c.write_slot.ensures.slot_after) c.write_number.ensures.bytes_after
