@@ -18,8 +18,8 @@ module _ {A : Type 0} (values : A → List ℕ) where
   answered_says (Ok a) = refl
   answered_says (Err refusal) = refl
 
-  pub told : {result : Result A Refusal} {r : Answer} {wanted : Said} → Means (answered (λ a. answer_of (done (values a))) result) r → says_by values result ≡ wanted → r ≡ answer_of wanted
-  told {result} m e = m.answer ∙ answered_says result ∙ ap answer_of e
+  pub told : (result : Result A Refusal) {r : Answer} {wanted : Said} → Means (answered (λ a. answer_of (done (values a))) result) r → says_by values result ≡ wanted → r ≡ answer_of wanted
+  told result m e = m.answer ∙ answered_says result ∙ ap answer_of e
 
 found_says : (result : Result Found Refusal)
     → answered (λ f. answer_for (done (f.rights ∷ [])) f.start f.size) result
@@ -29,6 +29,6 @@ found_says (Ok found) = refl
 found_says (Err refusal) = refl
 
 -- with the deciding record
-pub told_found : {result : Result Found Refusal} {r : Answer} → Means (answered (λ f. answer_for (done (f.rights ∷ [])) f.start f.size) result) r
+pub told_found : (result : Result Found Refusal) {r : Answer} → Means (answered (λ f. answer_for (done (f.rights ∷ [])) f.start f.size) result) r
     → r ≡ answer_for (evaluated_as result).says (evaluated_as result).start (evaluated_as result).size
-told_found {result} m = m.answer ∙ found_says result
+told_found result m = m.answer ∙ found_says result

@@ -48,6 +48,7 @@ pub struct Claim {
 impl From<Caller> for evaluate::Caller {
     ghost from_gives = { λ caller r. Means (caller_of caller) r };
 
+    #[tactic(auto, unfolding(crate::specs::Given::caller_of))]
     fn from(caller: Caller) -> evaluate::Caller {
         evaluate::Caller {
             realm: realm_at(&caller.realm, 0),
@@ -60,6 +61,7 @@ impl From<Caller> for evaluate::Caller {
 impl From<File> for evaluate::File {
     ghost from_gives = { λ file r. Means (file_of file) r };
 
+    #[tactic(auto, unfolding(crate::specs::Given::file_of))]
     fn from(file: File) -> evaluate::File {
         evaluate::File {
             owner: file.owner,
@@ -72,6 +74,7 @@ impl From<File> for evaluate::File {
 impl From<File> for Guard {
     ghost from_gives = { λ file r. Means (guard_of file) r };
 
+    #[tactic(auto, unfolding(crate::specs::Given::guard_of))]
     fn from(file: File) -> Guard {
         if file.moded == 0 {
             return Guard::List;
@@ -86,6 +89,7 @@ impl From<File> for Guard {
 impl From<Entry> for edit::Entry {
     ghost from_gives = { λ entry r. Means (entry_of entry) r };
 
+    #[tactic(auto, unfolding(crate::specs::Given::entry_of))]
     fn from(entry: Entry) -> edit::Entry {
         edit::Entry {
             kind: entry.kind,
@@ -99,6 +103,7 @@ impl From<Entry> for edit::Entry {
 impl From<Claim> for claims::Claim {
     ghost from_gives = { λ claim r. Means (claim_of claim) r };
 
+    #[tactic(auto, unfolding(crate::specs::Given::claim_of))]
     fn from(claim: Claim) -> claims::Claim {
         claims::Claim {
             types: claim.types,

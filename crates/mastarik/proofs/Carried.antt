@@ -51,7 +51,7 @@ TellsRange result r = Means (answered (λ g. answer_of (done (g.number ∷ g.fir
 
 module _ {r : Answer} where
   pub checks : {list : List ℕ} {result : Result (Unit {0}) Refusal} → TellsDone result r → ChecksList list result → Checks list r
-  checks said p = record { answer = told (λ none. []) said p.answer }
+  checks {result = result} said p = record { answer = told (λ none. []) result said p.answer }
 
   pub audits : {bytes : List ℕ} {truth : Bool} → Means (answer_of (truth_says truth)) r → AuditsTable bytes truth → Audits bytes r
   audits said p = record { answer = said.answer ∙ ap (λ t. answer_of (truth_says t)) p.answer }
@@ -64,24 +64,24 @@ module _ {r : Answer} where
     puts p = go (subst (λ x. PutsEntry list x out result after) given.answer p)
       where
         go : PutsEntry list (entry_of entry) out result after → Puts list entry out r after
-        go q = record { answer = told (λ n. n ∷ []) said q.answer; out_after = q.out_after }
+        go q = record { answer = told (λ n. n ∷ []) result said q.answer; out_after = q.out_after }
 
     pub drops : DropsEntry list e out result after → Drops list entry out r after
     drops p = go (subst (λ x. DropsEntry list x out result after) given.answer p)
       where
         go : DropsEntry list (entry_of entry) out result after → Drops list entry out r after
-        go q = record { answer = told (λ n. n ∷ []) said q.answer; out_after = q.out_after }
+        go q = record { answer = told (λ n. n ∷ []) result said q.answer; out_after = q.out_after }
 
   module _ {bytes after : List ℕ} where
     pub fills : {result : Result (Unit {0}) Refusal} → TellsDone result r → FillsTable bytes result after → Fills bytes r after
-    fills said p = record { answer = told (λ none. []) said p.answer; table_after = p.table_after }
+    fills {result = result} said p = record { answer = told (λ none. []) result said p.answer; table_after = p.table_after }
 
     pub returns : {host number types : ℕ} {result : Result (Unit {0}) Refusal} → TellsDone result r → ReturnsTypes bytes host number types result after
         → Returns bytes host number types r after
-    returns said p = record { answer = told (λ none. []) said p.answer; table_after = p.table_after }
+    returns {result = result} said p = record { answer = told (λ none. []) result said p.answer; table_after = p.table_after }
 
     pub frees : {host : ℕ} {result : Result ℕ Refusal} → TellsNumber result r → FreesHost bytes host result after → DropsHost bytes host r after
-    frees said p = record { answer = told (λ n. n ∷ []) said p.answer; table_after = p.table_after }
+    frees {result = result} said p = record { answer = told (λ n. n ∷ []) result said p.answer; table_after = p.table_after }
 
 -- the caller, the file and its guard
 module _ {list groups : List ℕ} {caller : Caller} {file : File} {access : TheAccess} (lent : Lends list groups caller file access) where
@@ -93,26 +93,26 @@ module _ {list groups : List ℕ} {caller : Caller} {file : File} {access : TheA
     pub gives : {result : Result Found Refusal} → Means (answered (λ f. answer_for (done (f.rights ∷ [])) f.start f.size) result) r
         → Finds (decided access.list.now access.groups.now access.caller access.file access.guard) result → GivesRights list groups caller file r
     unfolding decided_for
-    gives said p = record { answer = told_found said ∙ rw (p.answer, lent.list_lent, lent.groups_lent, lent.caller_meant, lent.file_meant, lent.guard_meant) refl }
+    gives {result = result} said p = record { answer = told_found result said ∙ rw (p.answer, lent.list_lent, lent.groups_lent, lent.caller_meant, lent.file_meant, lent.guard_meant) refl }
 
     module _ {bytes : List ℕ} {claim : Claim} {t : TheClaim} (given : Means (claim_of claim) t) {after : List ℕ} where
       pub asks : {out : List ℕ} {result : Result ℕ Refusal} → TellsNumber result r → AsksTable bytes t (access_in access) out result after
           → Asks bytes claim (access_for list groups caller file) out r after
-      asks {out} {result} said p = go (subst (λ x. AsksTable bytes x (access_for list groups caller file) out result after) given.answer (subst (λ x. AsksTable bytes t x out result after) judged_by p))
+      asks {out = out} {result = result} said p = go (subst (λ x. AsksTable bytes x (access_for list groups caller file) out result after) given.answer (subst (λ x. AsksTable bytes t x out result after) judged_by p))
         where
           go : AsksTable bytes (claim_of claim) (access_for list groups caller file) out result after → Asks bytes claim (access_for list groups caller file) out r after
-          go q = record { answer = told (λ n. n ∷ []) said q.answer; out_after = q.out_after }
+          go q = record { answer = told (λ n. n ∷ []) result said q.answer; out_after = q.out_after }
 
       pub grants : {result : Result ℕ Refusal} → TellsNumber result r → GrantsToken bytes t (access_in access) result after → Grants bytes claim (access_for list groups caller file) r after
-      grants {result} said p = go (subst (λ x. GrantsToken bytes x (access_for list groups caller file) result after) given.answer (subst (λ x. GrantsToken bytes t x result after) judged_by p))
+      grants {result = result} said p = go (subst (λ x. GrantsToken bytes x (access_for list groups caller file) result after) given.answer (subst (λ x. GrantsToken bytes t x result after) judged_by p))
         where
           go : GrantsToken bytes (claim_of claim) (access_for list groups caller file) result after → Grants bytes claim (access_for list groups caller file) r after
-          go q = record { answer = told (λ n. n ∷ []) said q.answer; table_after = q.table_after }
+          go q = record { answer = told (λ n. n ∷ []) result said q.answer; table_after = q.table_after }
 
       pub grants_widest : {result : Result Granted Refusal} → TellsRange result r → GrantsWidestToken bytes t (access_in access) result after
           → GrantsWidest bytes claim (access_for list groups caller file) r after
-      grants_widest {result} said p =
+      grants_widest {result = result} said p =
           go (subst (λ x. GrantsWidestToken bytes x (access_for list groups caller file) result after) given.answer (subst (λ x. GrantsWidestToken bytes t x result after) judged_by p))
         where
           go : GrantsWidestToken bytes (claim_of claim) (access_for list groups caller file) result after → GrantsWidest bytes claim (access_for list groups caller file) r after
-          go q = record { said = widest_says result; answer = told (λ (g : Granted). g.number ∷ g.first ∷ g.last ∷ []) said refl; outcome = q.outcome }
+          go q = record { said = widest_says result; answer = told (λ (g : Granted). g.number ∷ g.first ∷ g.last ∷ []) result said refl; outcome = q.outcome }
