@@ -1,5 +1,6 @@
 -- The count of a dropped host's slots is theirs, and none is left. Assumes nothing.
-use Rattle.std.specs.Prelude.{if◌then◌else◌}
+use Rattle.std.specs.Prelude.{if◌then◌else◌, Ok}
+use Rattle.words.specs.Refusal.{says_by}
 use mathlib.Core.Path.{◌≡◌, refl, sym, ap}
 use mathlib.Core.Bool.{Bool, true, false}
 use mathlib.Core.List.{List, [], ◌∷◌, map}
@@ -12,10 +13,8 @@ use Rattle.words.proofs.Tests.{Each, those_none}
 use Rattle.words.proofs.Left.{not_done}
 use Rattle.table.specs.Layout.{table_of}
 use Rattle.table.specs.Form.{well_formed}
-use Rattle.table.specs.Reply.{reply_says}
 use Rattle.table.specs.Call.{says_of}
 use Rattle.table.specs.Table.{Table}
-use Rattle.table.specs.declared.reply.Reply.TheVariants.{Value}
 use Rattle.table.specs.declared.slot.Slot.{Slot}
 use Rattle.table.specs.declared.slot.Slot.TheVariants.{Free, Held}
 use Rattle.returns.specs.DropHost.{is_hosts, freed, drop_says, dropped, Drops}
@@ -25,8 +24,8 @@ first_value (done values) = get_or values 0 0
 first_value (refused number values) = 0
 
 -- the answer is how many slots were the host's
-pub count_is : (bytes : List ℕ) (host n : ℕ) (after : List ℕ) → Drops bytes host (Value n) after → n ≡ length (those (is_hosts host) (table_of bytes).slots)
-unfolding reply_says says_of drop_says first_value
+pub count_is : (bytes : List ℕ) (host n : ℕ) (after : List ℕ) → Drops bytes host (Ok n) after → n ≡ length (those (is_hosts host) (table_of bytes).slots)
+unfolding says_by says_of drop_says first_value
 count_is bytes host n after d = go (well_formed bytes) (eqb host 0) d.answer
   where
     go : (a b : Bool)

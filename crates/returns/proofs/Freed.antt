@@ -1,8 +1,9 @@
 -- Dropping a host, slot by slot. Assumes nothing.
-use Rattle.std.specs.Prelude.{if◌then◌else◌}
+use Rattle.std.specs.Prelude.{if◌then◌else◌, Ok, Err}
 use mathlib.Core.Path.{◌≡◌, refl, sym, ◌∙◌, ap}
 use mathlib.Core.Bool.{Bool, true, false}
 use mathlib.Core.List.{List, [], ◌∷◌, ◌++◌, map, append-nil}
+use mir.Val.{bool_byte}
 use Prim.Native.Nat.{ℕ, suc, ◌+◌, ◌*◌, ◌≤◌, ◌<◌}
 use native.Mathlib.Numerals.{add-one}
 use native.Mathlib.Omega.{arith}
@@ -10,7 +11,10 @@ use borrow.Author.Tests.{eq-eqb, ne_eqb}
 use lib.ListN.{length, get_or, take, drop, set, length-append, length-map, length-drop, drop_of_length-le}
 use lib.Seq.{take-suc, take_all, drop-cons, set_at, append_snoc, length-take-le, get_or_at}
 use Rattle.words.specs.Test.{those}
-use Rattle.words.specs.Said.{done, refused}
+use Rattle.words.specs.Said.{done}
+use Rattle.words.specs.Refusal.{refusal_number, refusal_value, values_in, refusal_says, says_by}
+use Rattle.words.specs.declared.refusal.Refusal.{Refusal}
+use Rattle.words.specs.declared.refusal.Refusal.TheVariants.{NotWellFormed, Malformed}
 use Rattle.words.specs.Number.{Bytes, part}
 use Rattle.words.specs.Writing.{over}
 use Rattle.words.proofs.Tests.{map_append, counted_more}
@@ -18,32 +22,23 @@ use Rattle.words.proofs.Left.{left_whole}
 use Rattle.table.specs.Table.{with_slots}
 use Rattle.table.specs.Layout.{width, slot_of, slot_bytes, count, table_of, bytes_of}
 use Rattle.table.specs.Form.{well_formed}
-use Rattle.table.specs.Reply.{reply_says}
 use Rattle.table.specs.Call.{says_of}
-use Rattle.table.specs.declared.reply.Reply.TheVariants.{Value, Refused}
 use Rattle.table.specs.declared.slot.Slot.{Slot}
 use Rattle.table.specs.declared.slot.Slot.TheVariants.{Free}
 use Rattle.table.proofs.Cuts.{Sized, table_length}
 use Rattle.table.proofs.Tables.{form_size, bytes_table, put_bytes, bytes_at, bytes_length}
 use Rattle.table.proofs.Means.{InOrder, ordered, again_at}
-use Rattle.table.proofs.Calls.{says_ill, says_well, refusing, left_by}
+use Rattle.table.proofs.Calls.{ill_refused, says_well, refusing, left_by}
 use Rattle.returns.specs.DropHost.{is_hosts, freed, drop_says, dropped, Drops}
 use Rattle.returns.specs.Slots.{Frees, FreesAll}
 
 -- one slot
 module _ (bytes : List ℕ) (at host : ℕ) {slot : Slot} {b : Bool} (read : slot ≡ slot_of (part at width bytes)) (told : b ≡ is_hosts host slot) where
-  pub not_freed : b ≡ false → Frees bytes at host 0 bytes
-  not_freed e = record { count = rw (← read, ← told, e) refl; table_after = rw (← read, ← told, e) refl }
+  pub not_freed : b ≡ false → Frees bytes at host false bytes
+  not_freed e = record { answer = rw (← read, ← told, e) refl; table_after = rw (← read, ← told, e) refl }
 
-  pub freed_one : b ≡ true → {after : List ℕ} → after ≡ over at (slot_bytes Free) bytes → Frees bytes at host 1 after
-  freed_one e p = record { count = rw (← read, ← told, e) refl; table_after = p ∙ rw (← read, ← told, e) refl }
-
-pub at_most_one : {bytes : List ℕ} {at host r : ℕ} {after : List ℕ} → Frees bytes at host r after → r ≤ 1
-at_most_one {bytes} {at} {host} f = go (is_hosts host (slot_of (part at width bytes))) f.count
-  where
-    go : (b : Bool) {r : ℕ} → r ≡ (if b then 1 else 0) → r ≤ 1
-    go true e = omega arith
-    go false e = omega arith
+  pub freed_one : b ≡ true → {after : List ℕ} → after ≡ over at (slot_bytes Free) bytes → Frees bytes at host true after
+  freed_one e p = record { answer = rw (← read, ← told, e) refl; table_after = p ∙ rw (← read, ← told, e) refl }
 
 -- a list of which the first i elements are changed
 unfoldable pub halfway : {A : Type 0} → (A → A) → ℕ → List A → List A
@@ -121,9 +116,9 @@ module _ (old bytes : List ℕ) (host sum i : ℕ) (c : Freeing old bytes host s
         ∙ ap slot_of (bytes_at t i there ∙ ap slot_bytes (half_there (freed host) i (table_of old).slots Free inside))
         ∙ again_at (table_of old) c.order i
 
-    pub one_freed : {r : ℕ} {after : List ℕ} → Frees bytes (width * (i + 1)) host r after → Freeing old after host (sum + r) (i + 1)
+    pub one_freed : {b : Bool} {after : List ℕ} → Frees bytes (width * (i + 1)) host b after → Freeing old after host (sum + bool_byte b) (i + 1)
     unfolding freed
-    one_freed {r} {after} f = go (is_hosts host slot) refl (f.count ∙ rw (still) refl) (f.table_after ∙ rw (still) refl)
+    one_freed {b} {after} f = go (is_hosts host slot) refl (ap bool_byte (f.answer ∙ rw (still) refl)) (f.table_after ∙ rw (still) refl)
       where
         slots : List Slot
         slots = (table_of old).slots
@@ -137,7 +132,7 @@ module _ (old bytes : List ℕ) (host sum i : ℕ) (c : Freeing old bytes host s
         there : i < length (halfway (freed host) i slots)
         there = rw (half_long (freed host) i slots (rw (table_length old) c.within)) inside
 
-        go : (b : Bool) → is_hosts host slot ≡ b → r ≡ (if b then 1 else 0) → after ≡ (if b then over (width * (i + 1)) (slot_bytes Free) bytes else bytes)
+        go : (b : Bool) → is_hosts host slot ≡ b → {r : ℕ} → r ≡ bool_byte b → after ≡ (if b then over (width * (i + 1)) (slot_bytes Free) bytes else bytes)
             → Freeing old after host (sum + r) (i + 1)
         go true q p e = record {
           size = c.size;
@@ -169,19 +164,19 @@ module _ (old bytes : List ℕ) (host sum i : ℕ) (c : Freeing old bytes host s
 
 -- the whole ladder
 module _ (bytes : List ℕ) (host : ℕ) where
-  refused_by : (n : ℕ) → says_of (drop_says host) bytes ≡ refused n [] → Drops bytes host (Refused n) bytes
-  refused_by n e = let p = refusing (drop_says host) bytes (dropped host) n e in record { answer = p.0; table_after = p.1 }
+  refused_by : (refusal : Refusal) → says_of (drop_says host) bytes ≡ refusal_says refusal → Drops bytes host (Err refusal) bytes
+  refused_by refusal e = let p = refusing (drop_says host) bytes (dropped host) (λ n. n ∷ []) refusal e in record { answer = p.0; table_after = p.1 }
 
-  pub ill_formed : well_formed bytes ≡ false → Drops bytes host (Refused 30) bytes
-  ill_formed ill = refused_by 30 (says_ill (drop_says host) bytes ill)
+  pub ill_formed : well_formed bytes ≡ false → Drops bytes host (Err NotWellFormed) bytes
+  ill_formed ill = refused_by NotWellFormed (ill_refused (drop_says host) bytes ill refl)
 
   module _ (well : well_formed bytes ≡ true) where
-    pub no_host : host ≡ 0 → Drops bytes host (Refused 31) bytes
-    unfolding drop_says
-    no_host z = refused_by 31 (says_well (drop_says host) bytes well ∙ rw (eq-eqb host 0 z) refl)
+    pub no_host : host ≡ 0 → Drops bytes host (Err Malformed) bytes
+    unfolding drop_says refusal_says refusal_number refusal_value values_in
+    no_host z = refused_by Malformed (says_well (drop_says host) bytes well ∙ rw (eq-eqb host 0 z) refl)
 
-    pub host_dropped : (host ≡ 0 → ⊥) → {n : ℕ} {after : List ℕ} → FreesAll bytes host n after → Drops bytes host (Value n) after
-    unfolding reply_says drop_says dropped
+    pub host_dropped : (host ≡ 0 → ⊥) → {n : ℕ} {after : List ℕ} → FreesAll bytes host n after → Drops bytes host (Ok n) after
+    unfolding says_by drop_says dropped
     host_dropped some f =
         let e : says_of (drop_says host) bytes ≡ done (length (those (is_hosts host) (table_of bytes).slots) ∷ []) = says_well (drop_says host) bytes well ∙ rw (ne_eqb host 0 some) refl in
         let new = with_slots (table_of bytes) (map (freed host) (table_of bytes).slots) in

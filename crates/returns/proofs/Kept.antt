@@ -1,5 +1,5 @@
 -- A return and a drop leave a table in order; so after them the bytes are well formed, or as they were. Assumes nothing.
-use Rattle.std.specs.Prelude.{if◌then◌else◌}
+use Rattle.std.specs.Prelude.{if◌then◌else◌, Result}
 use mathlib.Core.Path.{◌≡◌, refl}
 use mathlib.Core.Bool.{Bool, true, false, not, ◌||◌, ◌&&◌}
 use mathlib.Core.List.{List}
@@ -17,7 +17,7 @@ use Rattle.claims.specs.declared.claim.Claim.{Claim}
 use Rattle.claims.proofs.Fewer.{without_less}
 use Rattle.table.specs.Table.{Table, limit}
 use Rattle.table.specs.Form.{is_token, well_formed}
-use Rattle.table.specs.declared.reply.Reply.{Reply}
+use Rattle.words.specs.declared.refusal.Refusal.{Refusal}
 use Rattle.table.specs.declared.slot.Slot.{Slot}
 use Rattle.table.specs.declared.slot.Slot.TheVariants.{Free, Held}
 use Rattle.table.proofs.Means.{Ordered, InOrder, order_at}
@@ -90,10 +90,10 @@ module _ (t : Table) (o : InOrder t) where
   unfolding dropped
   drop_order host = (map_order t o (freed host) (freed_ordered (limit t) t.next host), length-map t.slots (freed host))
 
-pub return_formed : {bytes : List ℕ} {host number types : ℕ} {r : Reply} {after : List ℕ} → Bytes bytes → Returns bytes host number types r after
+pub return_formed : {bytes : List ℕ} {host number types : ℕ} {r : Result (Unit {0}) Refusal} {after : List ℕ} → Bytes bytes → Returns bytes host number types r after
     → (well_formed after ≡ true) ⊎ (after ≡ bytes)
 return_formed {bytes} {host} {number} {types} all g =
     left_formed (return_says host number types) (returned host number types) bytes all (λ t o values e. return_order t o host number types) g.table_after
 
-pub drop_formed : {bytes : List ℕ} {host : ℕ} {r : Reply} {after : List ℕ} → Bytes bytes → Drops bytes host r after → (well_formed after ≡ true) ⊎ (after ≡ bytes)
+pub drop_formed : {bytes : List ℕ} {host : ℕ} {r : Result ℕ Refusal} {after : List ℕ} → Bytes bytes → Drops bytes host r after → (well_formed after ≡ true) ⊎ (after ≡ bytes)
 drop_formed {bytes} {host} all g = left_formed (drop_says host) (dropped host) bytes all (λ t o values e. drop_order t o host) g.table_after

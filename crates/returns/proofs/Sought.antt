@@ -1,56 +1,55 @@
 -- The lowest slot that passes a test, as a search finds it. Assumes nothing.
+use Rattle.std.specs.Prelude.{None, Some, position}
 use mathlib.Core.Path.{◌≡◌, refl, sym, ◌∙◌, ap}
 use mathlib.Core.Bool.{Bool, true, false}
-use mathlib.Core.List.{List}
-use Prim.Native.Nat.{ℕ, suc, ◌+◌, ◌*◌, ◌≤◌, ◌<◌}
+use mathlib.Core.List.{List, [], ◌∷◌, ◌++◌, map}
+use Prim.Native.Nat.{ℕ, ◌+◌, ◌-◌, ◌≤◌, ◌<◌}
 use native.Mathlib.Omega.{arith}
-use borrow.Author.Tests.{eq-eqb}
-use lib.ListN.{length, take, drop}
-use lib.Seq.{take_all, length-take-le}
-use Rattle.words.specs.Test.{place_of}
-use Rattle.words.specs.Number.{part}
-use Rattle.words.proofs.Found.{place_more, place_here}
-use Rattle.table.specs.Layout.{width, slot_of, count, table_of}
-use Rattle.table.specs.Form.{is_length}
+use lib.ListN.{length, take, drop, length-append, length-map}
+use Rattle.words.proofs.Tests.{map_append}
+use Rattle.table.specs.Layout.{width, slot_of, table_of}
 use Rattle.table.specs.declared.slot.Slot.{Slot}
-use Rattle.table.proofs.Cuts.{Sized, sized, table_length, table_more, table_split}
+use Rattle.table.proofs.Slots.{Passing, cuts, none_passed, at_slot, one_passed, all_passed}
+use Rattle.table.proofs.Places.{position_more, position_here}
 
--- none of the first i slots passes
-pub record Missed (bytes : List ℕ) (test : Slot → Bool) (i : ℕ) : Type 0 where
-  pub size : Sized bytes
-  pub within : i ≤ count bytes
-  pub none : place_of test (take i (table_of bytes).slots) ≡ i
+-- none of the slots that the loop has passed, which are i, passes the test
+pub record Missed (bytes : List ℕ) (test : Slot → Bool) (size : ℕ) (rest : List ℕ) (i : ℕ) : Type 0 where
+  pub slots : Passing bytes size rest
+  pub at : i ≡ length slots.passed
+  pub none : position test (map slot_of slots.passed) ≡ None
 
-module _ (bytes : List ℕ) (test : Slot → Bool) where
-  pub none_missed : is_length (length bytes) ≡ true → Missed bytes test 0
-  unfolding place_of
-  none_missed e = record { size = sized bytes e; within = omega arith; none = refl }
+module _ {bytes : List ℕ} (test : Slot → Bool) where
+  pub none_missed : {size : ℕ} {rest : List ℕ} {i : ℕ} → width ≤ length bytes → size ≡ width → rest ≡ take (length bytes - width) (drop width bytes) → i ≡ 0 → Missed bytes test size rest i
+  unfolding none_passed
+  none_missed h w r z = record { slots = none_passed bytes h w r; at = z; none = refl }
 
-  module _ (i : ℕ) (so_far : Missed bytes test i) where
-    length_so_far : length (take i (table_of bytes).slots) ≡ i
-    length_so_far = length-take-le i (table_of bytes).slots (rw (table_length bytes) so_far.within)
+  module _ {size : ℕ} {rest : List ℕ} {i : ℕ} (so_far : Missed bytes test size rest i) where
+    module _ (slot more : List ℕ) (given : (rest ≡ slot ++ more) × (length slot ≡ size)) {b : Bool} {value : Slot} (told : b ≡ test value) (read : value ≡ slot_of slot) where
+      before : List Slot
+      before = map slot_of so_far.slots.passed
 
-    module _ (h : i < count bytes) {b : Bool} {slot : Slot} (told : b ≡ test slot) (read : slot ≡ slot_of (part (width * (i + 1)) width bytes)) where
-      pub one_missed : b ≡ false → Missed bytes test (i + 1)
-      one_missed bad =
-          let fails : test (slot_of (part (width * (i + 1)) width bytes)) ≡ false = rw (← read, ← told) bad in
-          let same : place_of test (take i (table_of bytes).slots) ≡ length (take i (table_of bytes).slots) = so_far.none ∙ sym length_so_far in
+      pub one_missed : {size' : ℕ} {i' : ℕ} → b ≡ false → size' ≡ size → i' ≡ i + 1 → Missed bytes test size' more i'
+      unfolding one_passed before
+      one_missed bad w n =
+          let passed = so_far.slots.passed in
+          let fails : test (slot_of slot) ≡ false = rw (← read, ← told) bad in
           record {
-            size = so_far.size;
-            within = omega arith;
-            none = ap (place_of test) (table_more bytes i h)
-                ∙ place_more test (take i (table_of bytes).slots) (slot_of (part (width * (i + 1)) width bytes))
-                ∙ rw (fails, eq-eqb (place_of test (take i (table_of bytes).slots)) (length (take i (table_of bytes).slots)) same, so_far.none) refl;
+            slots = one_passed so_far.slots slot more given w;
+            at = n ∙ omega (arith, so_far.at, length-append passed (slot ∷ []));
+            none = ap (position test) (map_append slot_of passed (slot ∷ [])) ∙ position_more test before (slot_of slot) ∙ rw (fails, so_far.none) refl;
           }
 
-      pub found_here : b ≡ true → i ≡ place_of test (table_of bytes).slots
-      found_here good =
-          let passes : test (slot_of (part (width * (i + 1)) width bytes)) ≡ true = rw (← read, ← told) good in
-          sym (ap (place_of test) (table_split bytes i h)
-          ∙ place_here test (take i (table_of bytes).slots) (drop (suc i) (table_of bytes).slots) (slot_of (part (width * (i + 1)) width bytes)) (so_far.none ∙ sym length_so_far) passes
-          ∙ length_so_far)
+      pub found_here : {i' : ℕ} → b ≡ true → i' ≡ i → Some i' ≡ position test (table_of bytes).slots
+      unfolding table_of before
+      found_here good n =
+          let passed = so_far.slots.passed in
+          let passes : test (slot_of slot) ≡ true = rw (← read, ← told) good in
+          let long : i ≡ length before = so_far.at ∙ sym (length-map passed slot_of) in
+          ap Some (n ∙ long)
+          ∙ sym (ap (λ (slots : List (List ℕ)). position test (map slot_of slots)) (at_slot so_far.slots slot more given)
+          ∙ ap (position test) (map_append slot_of passed (slot ∷ cuts more))
+          ∙ position_here test before (map slot_of (cuts more)) (slot_of slot) so_far.none passes)
 
-    pub found_nowhere : count bytes ≤ i → count bytes ≡ place_of test (table_of bytes).slots
-    found_nowhere h =
-        let e : i ≡ count bytes = omega (arith, so_far.within) in
-        sym e ∙ sym so_far.none ∙ ap (place_of test) (take_all i (table_of bytes).slots (rw (table_length bytes) h))
+    pub found_nowhere : length rest < size → None ≡ position test (table_of bytes).slots
+    unfolding table_of
+    found_nowhere h = sym so_far.none ∙ ap (λ (slots : List (List ℕ)). position test (map slot_of slots)) (sym (all_passed so_far.slots h))

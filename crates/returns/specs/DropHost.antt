@@ -1,11 +1,11 @@
 -- Drop host frees the host's slots and answers how many they were.
-use Rattle.std.specs.Prelude.{◌≡◌, Bool, false, List, [], ◌∷◌, map, ℕ, eqb, length, if◌then◌else◌}
+use Rattle.std.specs.Prelude.{◌≡◌, Result, Bool, false, List, [], ◌∷◌, map, ℕ, eqb, length, if◌then◌else◌}
 use Rattle.words.specs.Test.{those}
 use Rattle.words.specs.Said.{Said, done, refused}
+use Rattle.words.specs.Refusal.{number_says}
+use Rattle.words.specs.declared.refusal.Refusal.{Refusal}
 use Rattle.table.specs.Table.{Table, with_slots}
-use Rattle.table.specs.Reply.{reply_says}
 use Rattle.table.specs.Call.{says_of, left_of}
-use Rattle.table.specs.declared.reply.Reply.{Reply}
 use Rattle.table.specs.declared.slot.Slot.{Slot}
 use Rattle.table.specs.declared.slot.Slot.TheVariants.{Free, Held}
 
@@ -26,6 +26,6 @@ module _ (host : ℕ) where
   dropped t = with_slots t (map freed t.slots)
 
 -- dropping a host
-pub record Drops (bytes : List ℕ) (host : ℕ) (r : Reply) (after : List ℕ) : Type 0 where
-  pub answer : reply_says r ≡ says_of (drop_says host) bytes
+pub record Drops (bytes : List ℕ) (host : ℕ) (r : Result ℕ Refusal) (after : List ℕ) : Type 0 where
+  pub answer : number_says r ≡ says_of (drop_says host) bytes
   pub table_after : after ≡ left_of (drop_says host) (dropped host) bytes

@@ -1,14 +1,14 @@
 -- Return takes host, number and types; the lowest slot with that number and host loses them; with none left it is free.
-use Rattle.std.specs.Prelude.{◌≡◌, Bool, false, not, ◌&&◌, List, [], ℕ, eqb, get_or, if◌then◌else◌}
+use Rattle.std.specs.Prelude.{◌≡◌, Result, Bool, false, not, ◌&&◌, List, [], ℕ, eqb, get_or, if◌then◌else◌}
 use Rattle.words.specs.Test.{any_of, place_of}
 use Rattle.words.specs.Said.{Said, done, refused}
+use Rattle.words.specs.Refusal.{plain_says}
+use Rattle.words.specs.declared.refusal.Refusal.{Refusal}
 use Rattle.claims.specs.Types.{without, lacks}
 use Rattle.claims.specs.Claim.{with_types, unfit}
 use Rattle.claims.specs.declared.claim.Claim.{Claim}
 use Rattle.table.specs.Table.{Table, limit, put}
-use Rattle.table.specs.Reply.{reply_says}
 use Rattle.table.specs.Call.{says_of, left_of}
-use Rattle.table.specs.declared.reply.Reply.{Reply}
 use Rattle.table.specs.declared.slot.Slot.{Slot}
 use Rattle.table.specs.declared.slot.Slot.TheVariants.{Free, Held}
 
@@ -49,6 +49,6 @@ module _ (host number types : ℕ) where
   returned t = put t (place_in t) (loses types (token_in t))
 
 -- returning types of a token
-pub record Returns (bytes : List ℕ) (host number types : ℕ) (r : Reply) (after : List ℕ) : Type 0 where
-  pub answer : reply_says r ≡ says_of (return_says host number types) bytes
+pub record Returns (bytes : List ℕ) (host number types : ℕ) (r : Result (Unit {0}) Refusal) (after : List ℕ) : Type 0 where
+  pub answer : plain_says r ≡ says_of (return_says host number types) bytes
   pub table_after : after ≡ left_of (return_says host number types) (returned host number types) bytes

@@ -6,9 +6,9 @@ ghost use Rattle.returns.specs.DropHost.{is_hosts, Drops};
 ghost use Rattle.returns.specs.Slots.{Frees, FreesAll};
 
 use store::write_slot;
-use table::refusal::{MALFORMED, NOT_WELL_FORMED};
-use table::{Reply, Slot, WIDTH, read_slot, well_formed};
+use table::{Refusal, Slot, WIDTH, read_slot, well_formed};
 
+#[tactic(auto, unfolding(crate::specs::DropHost::is_hosts))]
 fn is_hosts(slot: Slot, host: u16) -> bool
     ensures { result ≡ is_hosts host slot }
 {
@@ -18,16 +18,16 @@ fn is_hosts(slot: Slot, host: u16) -> bool
     }
 }
 
-// A slot of the host becomes free; 1 if it was the host's, else 0.
-fn free_slot(table: &mut [u8], at: usize, host: u16) -> u64
+// A slot of the host becomes free; whether it was the host's.
+fn free_slot(table: &mut [u8], at: usize, host: u16) -> bool
     requires { at + width ≤ length table.old }
     ensures { Frees table.old at host result table.new }
 {
     if !is_hosts(read_slot(&table[at..at + WIDTH]), host) {
-        return 0;
+        return false;
     }
     write_slot(&mut table[at..at + WIDTH], Slot::Free);
-    1
+    true
 }
 
 fn free_all(table: &mut [u8], host: u16) -> u64
@@ -35,26 +35,22 @@ fn free_all(table: &mut [u8], host: u16) -> u64
     ensures { FreesAll table.old host result table.new }
 {
     let n = table.len() / WIDTH - 1;
-    let mut freed: u64 = 0;
-    let mut i = 0;
-    while i < n {
-        freed += free_slot(table, WIDTH * (i + 1), host);
-        i += 1;
+    let mut freed = 0;
+    for i in 0..n {
+        freed += free_slot(table, WIDTH * (i + 1), host) as u64;
     }
     freed
 }
 
 // The host's slots become free; the answer is how many they were.
-pub fn drop_host(table: &mut [u8], host: u16) -> Reply
+pub fn drop_host(table: &mut [u8], host: u16) -> Result<u64, Refusal>
     ensures { Drops table.old host result table.new }
 {
     if !well_formed(table) {
-        return Reply::Refused {
-            number: NOT_WELL_FORMED,
-        };
+        return Err(Refusal::NotWellFormed);
     }
     if host == 0 {
-        return Reply::Refused { number: MALFORMED };
+        return Err(Refusal::Malformed);
     }
-    Reply::Value(free_all(table, host))
+    Ok(free_all(table, host))
 }

@@ -12,7 +12,7 @@ use lib.Dec.{eqb, ltb}
 use lib.ListN.{length, length-append}
 use Rattle.words.specs.Test.{any_of, place_of}
 use Rattle.words.proofs.Tests.{differ}
-use Rattle.words.proofs.Found.{place_within, place_more, any_placed}
+use Rattle.words.proofs.Found.{place_within, place_more, place_here, any_placed}
 
 -- a place p among n
 unfoldable among : ℕ → ℕ → Option ℕ
@@ -85,3 +85,12 @@ module _ {A : Type 0} (test : A → Bool) where
 
   pub position_none : (xs : List A) → position test xs ≡ None → any_of test xs ≡ false
   position_none xs e = any_placed test xs ∙ among_none (place_of test xs) (length xs) (sym (position_among xs) ∙ e)
+
+  -- none before it passes, and it does
+  pub position_here : (xs ys : List A) (y : A) → position test xs ≡ None → test y ≡ true → position test (xs ++ y ∷ ys) ≡ Some (length xs)
+  unfolding among
+  position_here xs ys y e good =
+      let n = ltb-false (place_of test xs) (length xs) (among_none (place_of test xs) (length xs) (sym (position_among xs) ∙ e)) in
+      let last : place_of test xs ≡ length xs = omega (arith, n, place_within test xs) in
+      let found = place_here test xs ys y last good in
+      position_among (xs ++ y ∷ ys) ∙ rw (found, lt-ltb (length xs) (length (xs ++ y ∷ ys)) (omega (arith, length-append xs (y ∷ ys)))) refl
