@@ -12,13 +12,13 @@ use Rattle.claims.specs.declared.claim.Claim.{Claim}
 use Rattle.table.specs.Table.{Table, limit}
 use Rattle.table.specs.Layout.{table_of}
 use Rattle.table.specs.Form.{well_formed}
-use Rattle.words.specs.Refusal.{says_by, plain_says, number_says, refusal_says, refusal_number, refusal_value, values_in}
+use Rattle.words.specs.Refusal.{says_by, plain_says, refusal_says, refusal_number, refusal_value, values_in}
 use Rattle.words.specs.declared.refusal.Refusal.{Refusal}
 use Rattle.words.specs.declared.refusal.Refusal.TheVariants.{NotWellFormed, Malformed}
 use Rattle.table.specs.Call.{says_of, left_of}
 use Rattle.table.proofs.Calls.{says_ill, says_well}
 use Rattle.tokens.specs.Grant.{request_says, serve_says, grant_says as plainGrantSays, Grants as GrantsPlain}
-use Rattle.tokens.specs.Widest.{with_more, widest_says, GrantsWidest as GrantsWidestPlain}
+use Rattle.tokens.specs.Widest.{with_more, GrantsWidest as GrantsWidestPlain}
 use Rattle.tokens.specs.declared.granting.Granted.{Granted}
 use Rattle.tokens.specs.Ask.{list_says, ask_says as plainAskSays, Asks as AsksPlain}
 use Rattle.access.specs.Access.{Access, access_says}

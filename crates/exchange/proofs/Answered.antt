@@ -4,7 +4,7 @@ use mathlib.Core.Path.{◌≡◌, refl, ◌∙◌, ap}
 use mathlib.Core.List.{List, [], ◌∷◌}
 use Prim.Native.Nat.{ℕ}
 use Rattle.words.specs.Said.{Said, done}
-use Rattle.words.specs.Refusal.{refusal_says, says_by}
+use Rattle.words.specs.Refusal.{says_by}
 use Rattle.words.specs.declared.refusal.Refusal.{Refusal}
 use Rattle.evaluate.specs.Evaluation.{bare, evaluated_as}
 use Rattle.evaluate.specs.declared.evaluation.Found.{Found}

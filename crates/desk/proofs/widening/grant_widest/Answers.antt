@@ -6,4 +6,4 @@ pub returns-in-Err : goal.returns-in-Err
 returns-in-Err c = not_widening c.args.table.now c.args.claim (access_in c.args.access) c.judge.ensures.answer c.in-Err.is c.first_refusal.ensures
 
 pub returns : goal.returns
-returns c = widening c.args.table.now c.args.claim (access_in c.args.access) c.judge.ensures.answer c.in-Ok.is c.grant_widest.ensures
+returns c = widening c.args.table.now c.args.claim (access_in c.args.access) c.judge.ensures.answer c.in_default.is c.grant_widest.ensures
