@@ -7,8 +7,7 @@ use Prim.Native.Nat.{ℕ, ◌+◌, ◌-◌, ◌≤◌, ◌<◌}
 use native.Mathlib.Omega.{arith}
 use borrow.Author.Tests.{eq-eqb, ne_eqb}
 use lib.Dec.{eqb, ltb}
-use lib.ListN.{length, take, drop, set, length-append}
-use lib.Seq.{drop-drop}
+use lib.ListN.{length, set, length-append}
 use Rattle.words.specs.Number.{within}
 use Rattle.words.specs.Writing.{digits, over, written}
 use Rattle.words.specs.Realm.{zero_realm, realm_bytes}

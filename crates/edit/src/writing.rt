@@ -1,7 +1,8 @@
 // Writing the new list to the second buffer.
-ghost use Rattle.std.specs.Prelude.{◌≡◌, true, [], ◌+◌, ◌≤◌, ltb, length, if◌then◌else◌};
+ghost use Rattle.std.specs.Prelude.{◌≡◌, true, [], ◌+◌, ◌≤◌, ◌<◌, ltb, length, if◌then◌else◌, IfOk, IfErr};
 ghost use Rattle.words.specs.Writing.{digits, over, written};
 ghost use Rattle.words.specs.Realm.{realm_bytes};
+ghost use Rattle.words.specs.declared.refusal.Refusal.TheVariants.{OutputTooShort};
 ghost use Rattle.records.specs.Kind.{size as size_of};
 ghost use Rattle.entry.specs.Entry.{is_entry, record_for};
 ghost use Rattle.entry.specs.Spelling.{part_of, spelled};
@@ -10,6 +11,17 @@ ghost use Rattle.edit.specs.Writing.{splice, Fits, Writes};
 use entry::{Entry, Plan};
 use words::{Realm, Refusal};
 use writes::{write_number, write_realm};
+
+// The buffer has room for n bytes.
+fn check_room(out: &[u8], n: usize) -> Result<(), Refusal>
+    ensures fine { IfOk result (λ none. n ≤ length out.now) }
+    ensures short { IfErr result (λ refusal. (refusal ≡ OutputTooShort) × (length out.now < n)) }
+{
+    if out.len() < n {
+        return Err(Refusal::OutputTooShort);
+    }
+    Ok(())
+}
 
 // All of a piece, from a place on.
 #[tactic(auto, using(words::proofs::Written::copied))]
@@ -71,9 +83,7 @@ pub(crate) fn write_put(
     requires { Fits list.now plan × (is_entry entry.kind ≡ true) × (plan.size ≡ size_of entry.kind) }
     ensures { Writes (splice list.now plan.spot (spelled (record_for entry))) out.old result out.new }
 {
-    if out.len() < plan.total {
-        return Err(Refusal::OutputTooShort);
-    }
+    check_room(out, plan.total)?;
     let at = plan.spot.at;
     let end = at + plan.spot.size;
     copy_to(out, 0, &list[0..at]);
@@ -87,9 +97,7 @@ pub(crate) fn write_drop(list: &[u8], plan: Plan, out: &mut [u8]) -> Result<usiz
     requires { Fits list.now plan × (plan.size ≡ 0) }
     ensures { Writes (splice list.now plan.spot []) out.old result out.new }
 {
-    if out.len() < plan.total {
-        return Err(Refusal::OutputTooShort);
-    }
+    check_room(out, plan.total)?;
     let at = plan.spot.at;
     let end = at + plan.spot.size;
     copy_to(out, 0, &list[0..at]);

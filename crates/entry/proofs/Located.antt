@@ -1,5 +1,5 @@
 -- An edit of a list that passes, whose entry's record was found: the new list's length and the verdict on it. Assumes nothing.
-use Rattle.std.specs.Prelude.{if◌then◌else◌, Ok}
+use Rattle.std.specs.Prelude.{if◌then◌else◌}
 use mathlib.Core.Path.{◌≡◌, refl, sym, ◌∙◌, ap}
 use mathlib.Core.List.{List, []}
 use mathlib.Core.Bool.{Bool, true, false}
@@ -10,26 +10,23 @@ use lib.Dec.{eqb, ltb}
 use lib.ListN.{length}
 use Rattle.words.specs.Test.{any_of}
 use Rattle.words.specs.Said.{done}
-use Rattle.words.specs.Refusal.{says_by}
 use Rattle.words.specs.Number.{Bytes}
 use Rattle.words.specs.Realm.{zero_realm}
 use Rattle.words.proofs.Written.{FitsRealm}
 use Rattle.records.specs.Kind.{body_of, size}
 use Rattle.list.specs.Checking.{check_says}
-use Rattle.list.proofs.Passed.{no_values}
 use Rattle.records.specs.declared.records.Record.{Record}
 use Rattle.entry.specs.Entry.{is_entry, record_for}
 use Rattle.entry.specs.Spelling.{spell}
 use Rattle.entry.specs.NewList.{records_in, same_entry, putting, dropping, has_entry}
 use Rattle.entry.specs.Plan.{spot_for}
-use Rattle.entry.specs.Spot.{InWidth, Says, Places, put_verdict, drop_verdict}
+use Rattle.entry.specs.Spot.{InWidth, Says, put_verdict, drop_verdict}
 use Rattle.entry.specs.declared.entries.Entry.{Entry}
 use Rattle.entry.specs.declared.spot.Spot.{Spot}
 use Rattle.entry.proofs.Lengths.{is_above, is_known_lem, rights_is}
 use Rattle.entry.proofs.Spelled.{Fitting}
 use Rattle.entry.proofs.Splits.{earlier}
 use Rattle.entry.proofs.Parts.{inside, put_length, drop_length, there}
-use Rattle.entry.proofs.Ladders.{past}
 use Rattle.entry.proofs.Verdicts.{put_verdict_lem, drop_verdict_lem}
 
 -- the record of an entry fits
@@ -60,11 +57,8 @@ pub record Located (list : List ℕ) (entry : Entry) (r : Record) (s : Spot) : T
   pub says : Says entry r
   pub found : s ≡ spot_for list r
 
-pub locate : {list : List ℕ} {entry : Entry} {r : Record} {s : Spot} → Bytes list → Places list entry (Ok (r, s)) → Located list entry r s
-unfolding says_by
-locate {list} bytes places =
-    let a = past (check_says list) _ [] places.answer in
-    record { bytes = bytes; passing = no_values list a.0 a.1.0; says = places.placed.0; found = places.placed.1 }
+pub locate : {list : List ℕ} {entry : Entry} {r : Record} {s : Spot} → Bytes list → check_says list ≡ done [] → Says entry r → s ≡ spot_for list r → Located list entry r s
+locate bytes passing says found = record { bytes = bytes; passing = passing; says = says; found = found }
 
 module _ {list : List ℕ} {entry : Entry} {r : Record} {s : Spot} (located : Located list entry r s) where
   is_record : r ≡ record_for entry

@@ -1,5 +1,5 @@
--- How a plan ends: refused where its record is placed, for nothing to drop, by the new list; or with the splice. Assumes nothing.
-use Rattle.std.specs.Prelude.{Ok, Err}
+-- How a plan ends: refused before the new list is looked at, for nothing to drop, by the new list; or with the splice. Assumes nothing.
+use Rattle.std.specs.Prelude.{if◌then◌else◌, Ok, Err}
 use mathlib.Core.Path.{◌≡◌, refl, sym, ◌∙◌, ap}
 use mathlib.Core.List.{List, [], ◌∷◌}
 use mathlib.Core.Bool.{true, false, not}
@@ -7,64 +7,78 @@ use Prim.Native.Nat.{ℕ, ◌+◌, ◌<◌}
 use borrow.Author.Tests.{lt-ltb}
 use lib.Dec.{ltb}
 use lib.ListN.{length}
-use Rattle.words.specs.Said.{done, and_then}
+use Rattle.words.specs.Said.{done, refused, and_then}
 use Rattle.words.specs.Refusal.{number_of, refusal_number, refusal_value, values_in, refusal_says, says_by, plain_says}
 use Rattle.words.specs.declared.refusal.Refusal.{Refusal}
 use Rattle.words.specs.declared.refusal.Fault.TheVariants.{UnknownKind}
 use Rattle.words.specs.declared.refusal.Refusal.TheVariants.{Faulty, NothingToDrop}
 use Rattle.list.specs.Checking.{check_says}
+use Rattle.list.proofs.Passed.{no_values}
 use Rattle.evaluate.specs.Evaluation.{Checks}
 use Rattle.records.specs.declared.records.Record.{Record}
 use Rattle.entry.specs.Entry.{is_entry}
 use Rattle.entry.specs.NewList.{has_entry}
-use Rattle.entry.specs.Plan.{put_judged, drop_judged, spot_for, plan_at, plan_says, PlansPut, PlansDrop}
-use Rattle.entry.specs.Spot.{Says, Places, put_verdict, drop_verdict}
+use Rattle.entry.specs.Plan.{put_judged, drop_judged, plan_at, plan_says, PlansPut, PlansDrop}
+use Rattle.entry.specs.Spot.{Asks, put_verdict, drop_verdict}
 use Rattle.entry.specs.declared.entries.Entry.{Entry}
 use Rattle.entry.specs.declared.spot.Spot.{Spot}
-use Rattle.entry.proofs.Ladders.{stops, stops_before}
-use Rattle.entry.proofs.Located.{Located, entered, spot_is, size_is, put_long, drop_long, put_judged_lem, drop_judged_lem, told}
+use Rattle.entry.proofs.Ladders.{past, past_test, stops, stops_before}
+use Rattle.entry.proofs.Located.{Located, entered as is_entered, spot_is, size_is, put_long, drop_long, put_judged_lem, drop_judged_lem, told}
 
-pub passing : {list : List ℕ} {none : Unit {0}} → Checks list (Ok none) → check_says list ≡ done []
+-- where nothing is refused before the new list is looked at, the old one passes and the kind is an entry's
+module _ {list : List ℕ} {kind : ℕ} {none : Unit {0}} (asks : Asks list kind (Ok none)) where
+  both : (w : List ℕ) × ((check_says list ≡ done w) × (done [] ≡ (if not (is_entry kind) then refused 12 (0 ∷ []) else done [])))
+  unfolding says_by
+  both = past (check_says list) _ [] asks.answer
+
+  pub passing : check_says list ≡ done []
+  passing = no_values list both.0 both.1.0
+
+  pub entered : is_entry kind ≡ true
+  entered = (past_test (is_entry kind) 12 (0 ∷ []) (done []) [] both.1.1).0
+
+passed : {list : List ℕ} {none : Unit {0}} → Checks list (Ok none) → check_says list ≡ done []
 unfolding says_by
-passing checks = sym checks.answer
+passed checks = sym checks.answer
+
+-- else the refusal is that of the old list, or of the kind
+module _ {list : List ℕ} {kind : ℕ} where
+  pub unchecked : {e : Refusal} → Checks list (Err e) → Asks list kind (Err e)
+  unfolding says_by
+  unchecked {e} checks = record { answer = stops e (check_says list) _ (sym checks.answer) }
+
+  pub unknown : {none : Unit {0}} → Checks list (Ok none) → is_entry kind ≡ false → Asks list kind (Err (Faulty UnknownKind 0))
+  unfolding says_by refusal_says refusal_number number_of refusal_value values_in and_then
+  unknown checks other = record { answer = rw (passed checks, other) refl }
+
+  pub known : {none : Unit {0}} → Checks list (Ok none) → is_entry kind ≡ true → Asks list kind (Ok none)
+  unfolding says_by and_then
+  known checks entry = record { answer = rw (passed checks, entry) refl }
 
 module _ {list : List ℕ} {entry : Entry} where
-  -- a record is placed, or the old list or the entry's kind refuses
-  pub unchecked : {e : Refusal} → Checks list (Err e) → Places list entry (Err e)
-  unfolding says_by
-  unchecked {e} checks = record { answer = stops e (check_says list) _ (sym checks.answer); placed = tt }
-
-  pub unknown : {none : Unit {0}} → Checks list (Ok none) → is_entry entry.kind ≡ false → Places list entry (Err (Faulty UnknownKind 0))
-  unfolding says_by refusal_says refusal_number number_of refusal_value values_in and_then
-  unknown checks other = record { answer = rw (passing checks, other) refl; placed = tt }
-
-  pub is_placed : {none : Unit {0}} {r : Record} {s : Spot} → Checks list (Ok none) → is_entry entry.kind ≡ true → Says entry r → s ≡ spot_for list r → Places list entry (Ok (r, s))
-  unfolding says_by and_then
-  is_placed checks entered says found = record { answer = rw (passing checks, entered) refl; placed = (says, found) }
-
-  -- refused where its record is placed
-  module _ {e : Refusal} (places : Places list entry (Err e)) where
-    pub put_unplaced : PlansPut list entry (Err e)
+  -- refused before the new list is looked at
+  module _ {e : Refusal} (asks : Asks list entry.kind (Err e)) where
+    pub put_asked : PlansPut list entry (Err e)
     unfolding put_judged says_by
-    put_unplaced = record { answer = stops e (put_judged list entry) _ (stops_before e (check_says list) (not (is_entry entry.kind)) 12 (0 ∷ []) _ places.answer) }
+    put_asked = record { answer = stops e (put_judged list entry) _ (stops_before e (check_says list) (not (is_entry entry.kind)) 12 (0 ∷ []) _ asks.answer) }
 
-    pub drop_unplaced : PlansDrop list entry (Err e)
+    pub drop_asked : PlansDrop list entry (Err e)
     unfolding drop_judged says_by
-    drop_unplaced = record { answer = stops e (drop_judged list entry) _ (stops_before e (check_says list) (not (is_entry entry.kind)) 12 (0 ∷ []) _ places.answer) }
+    drop_asked = record { answer = stops e (drop_judged list entry) _ (stops_before e (check_says list) (not (is_entry entry.kind)) 12 (0 ∷ []) _ asks.answer) }
 
   module _ {r : Record} {s : Spot} (located : Located list entry r s) where
     pub drop_nothing : s.size ≡ 0 → PlansDrop list entry (Err NothingToDrop)
     unfolding drop_judged and_then says_by refusal_says refusal_number refusal_value values_in
     drop_nothing z =
         let none : has_entry list entry ≡ false = sym (told located) ∙ ap (ltb 0) z in
-        record { answer = rw (located.passing, entered located, none) refl }
+        record { answer = rw (located.passing, is_entered located, none) refl }
 
     -- by the verdict on the new list, n bytes long
     module _ (n : ℕ) where
       module _ (long : n + s.size ≡ length list + r.size) where
         put_new : put_judged list entry ≡ put_verdict list r s.at n
         unfolding put_judged and_then
-        put_new = rw (located.passing, entered located) (put_judged_lem located n long)
+        put_new = rw (located.passing, is_entered located) (put_judged_lem located n long)
 
         pub put_refused : {e : Refusal} → plain_says (Err e) ≡ put_verdict list r s.at n → PlansPut list entry (Err e)
         unfolding says_by
@@ -81,7 +95,7 @@ module _ {list : List ℕ} {entry : Entry} where
         unfolding drop_judged and_then
         drop_new =
             let there : has_entry list entry ≡ true = sym (told located) ∙ lt-ltb 0 s.size some in
-            rw (located.passing, entered located, there) (drop_judged_lem located n long)
+            rw (located.passing, is_entered located, there) (drop_judged_lem located n long)
 
         pub drop_refused : {e : Refusal} → plain_says (Err e) ≡ drop_verdict r.kind s.at n → PlansDrop list entry (Err e)
         unfolding says_by

@@ -1,10 +1,10 @@
 -- Contracts of the crate's own functions: an entry's record, where it stands by another, and the verdict on the new list without it being
 -- there yet.
-use Rattle.std.specs.Prelude.{◌≡◌, List, [], ◌∷◌, Bool, true, not, ◌&&◌, ℕ, ◌^◌, ◌≤◌, ◌<◌, eqb, leb, ltb, if◌then◌else◌, Result, IfOk}
+use Rattle.std.specs.Prelude.{◌≡◌, List, [], ◌∷◌, Bool, true, not, ◌&&◌, ℕ, ◌^◌, ◌≤◌, ◌<◌, eqb, leb, ltb, if◌then◌else◌, Result}
 use Rattle.std.specs.declared.cmp.Ordering.{Ordering}
 use Rattle.std.specs.declared.cmp.Ordering.TheVariants.{Less, Equal, Greater}
 use Rattle.words.specs.Said.{Said, done, refused, and_then}
-use Rattle.words.specs.Refusal.{says_by}
+use Rattle.words.specs.Refusal.{plain_says}
 use Rattle.words.specs.declared.refusal.Refusal.{Refusal}
 use Rattle.words.specs.Realm.{realm_at}
 use Rattle.records.specs.Kind.{size, wants_mask}
@@ -13,8 +13,6 @@ use Rattle.list.specs.Checking.{records, has, check_says}
 use Rattle.records.specs.declared.records.Record.{Record}
 use Rattle.entry.specs.Entry.{is_entry, record_for}
 use Rattle.entry.specs.declared.entries.Entry.{Entry}
-use Rattle.entry.specs.declared.spot.Spot.{Spot}
-use Rattle.entry.specs.Plan.{spot_for}
 
 -- what the numbers of an entry always are: a realm of sixteen bytes, an id of four
 pub record InWidth (entry : Entry) : Type 0 where
@@ -30,10 +28,9 @@ pub record Says (entry : Entry) (r : Record) : Type 0 where
   pub short : r.size ≤ 22
   pub numbers : InWidth entry
 
--- an entry's record and its spot, where the old list passes and the kind is an entry's
-pub record Places (list : List ℕ) (entry : Entry) (r : Result (Record × Spot) Refusal) : Type 0 where
-  pub answer : says_by (λ placed. []) r ≡ and_then (check_says list) (if not (is_entry entry.kind) then refused 12 (0 ∷ []) else done [])
-  pub placed : IfOk r (λ placed. Says entry placed.0 × (placed.1 ≡ spot_for list placed.0))
+-- what is asked before the new list is looked at: the old list's own refusals, then a kind outside 2 to 11
+pub record Asks (list : List ℕ) (kind : ℕ) (r : Result (Unit {0}) Refusal) : Type 0 where
+  pub answer : plain_says r ≡ and_then (check_says list) (if not (is_entry kind) then refused 12 (0 ∷ []) else done [])
 
 -- where a record stands by another
 unfoldable pub side_of : Record → Record → Ordering
