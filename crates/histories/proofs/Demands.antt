@@ -1,5 +1,5 @@
 -- The customer's demands hold of every table that calls reach. Assumes nothing.
-use Rattle.std.specs.Prelude.{if◌then◌else◌}
+use Rattle.std.specs.Prelude.{if◌then◌else◌, Ok}
 use mathlib.Core.Path.{◌≡◌, refl, sym, ◌∙◌, ap}
 use mathlib.Core.Bool.{Bool, true, false}
 use mathlib.Core.List.{List, [], ◌∷◌, ◌++◌}
@@ -13,7 +13,6 @@ use lib.ListN.{length, drop}
 use Rattle.words.specs.Said.{Said, done, refused, is_done, and_then, left}
 use Rattle.words.proofs.Tests.{those_few}
 use Rattle.words.proofs.Left.{left_kept, not_done}
-use Rattle.entry.specs.Plan.{plan_says}
 use Rattle.claims.specs.Claim.{malformed}
 use Rattle.claims.specs.Rule.{Conflicting}
 use Rattle.claims.specs.declared.claim.Claim.{Claim}
@@ -22,6 +21,7 @@ use Rattle.claims.proofs.Sentence.{in_conflict}
 use Rattle.table.specs.Table.{Table, limit, is_in_the_way}
 use Rattle.table.specs.Layout.{table_of, bytes_of}
 use Rattle.words.specs.Refusal.{says_by, number_says}
+use Rattle.entry.specs.Plan.{plan_values, plan_at}
 use Rattle.table.specs.Call.{says_of, left_of}
 use Rattle.table.specs.declared.slot.Slot.TheVariants.{Held}
 use Rattle.table.proofs.Calls.{says_well}
@@ -83,7 +83,7 @@ unfolding is_answer truth_says of_audit shape
 audit_answers truth = refl
 
 pub demand1 : Demand1
-unfolding plan_says
+unfolding says_by plan_values plan_at
 demand1 = record {
   check = λ list r c. rw c.answer (check_answers list);
   read_record = λ tail r p. rw p.answer (read_answers tail);

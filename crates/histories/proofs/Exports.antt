@@ -6,12 +6,12 @@ use mathlib.Core.List.{List, [], ◌∷◌, ◌++◌, map}
 use mathlib.Core.Logic.{◌⊎◌, inl, inr, ◌≢◌}
 use Prim.Native.Nat.{ℕ, ◌≤◌}
 use native.Mathlib.Omega.{arith}
-use borrow.Author.Tests.{eqb-true, eq-eqb, leb-true, not-true}
+use borrow.Author.Tests.{eqb-true, leb-true, not-true}
 use lib.Dec.{eqb, leb}
-use lib.ListN.{length, get_or, take}
+use lib.ListN.{length, get_or}
 use Rattle.words.specs.Test.{any_of, all_of}
 use Rattle.words.specs.Said.{Said, done, refused, is_done}
-use Rattle.words.specs.Refusal.{refusal_of, fault_of, number_of, refusal_number, refusal_value, values_in, refusal_says, says_by, plain_says, number_says}
+use Rattle.words.specs.Refusal.{refusal_of, fault_of, number_of, refusal_number, refusal_value, values_in, refusal_says, says_by, number_says}
 use Rattle.words.specs.declared.refusal.Refusal.{Refusal}
 use Rattle.words.specs.declared.refusal.Refusal.TheVariants.{Conflict}
 use Rattle.words.proofs.Tests.{differ, and_left, and_right, or_one}
@@ -27,7 +27,6 @@ use Rattle.audit.specs.Audit.{sound}
 use Rattle.access.specs.Access.{Access}
 use Rattle.access.specs.Needs.{needed}
 use Rattle.desk.specs.Grant.{grant_says, Grants as GrantsToken}
-use Rattle.tokens.specs.Widest.{widest_says}
 use Rattle.tokens.specs.declared.granting.Granted.{Granted}
 use Rattle.desk.specs.Widest.{GrantsWidest as GrantsWidestToken}
 use Rattle.desk.specs.Ask.{ask_says, Asks as AsksTable}
@@ -39,7 +38,7 @@ use Rattle.exchange.specs.declared.given.Claim.{Claim}
 use Rattle.mastarik.specs.Lists.{decided_for}
 use Rattle.mastarik.specs.Tables.{Fills, Asks, Grants, GrantsWidest, Returns, DropsHost, Audits}
 use Rattle.histories.specs.Shape.{Shape, shape, is_answer, faults, of_check, of_rights, of_put, of_drop, of_fill, of_ask, of_grant, of_grant_widest, of_return, of_drop_host, of_audit, of_needs}
-use Rattle.histories.specs.History.{Done, Counted, Ranged, granted, Leaves, RunsBy, Runs, Reached, Resumed, Gives, judged, widest}
+use Rattle.histories.specs.History.{Counted, Ranged, granted, Leaves, RunsBy, Runs, Reached, Resumed, Gives, judged, widest}
 use Rattle.histories.specs.Callback.{TurnLeaves, Returned}
 use Rattle.histories.specs.Demands.{Ends, Again, Demand2Of, Demand3Of, NumbersOnceOf}
 use Rattle.histories.specs.Exports.{done_by, said_by, Typed, Export, fill, ask, grant, grant_widest, give_back, drop_host, audit, ExportLeaves, ExportRuns, call_of, ReachedInC, ResumedInC, ExportsAreCalls, ResumedAreCalls, Answered, EndsInC, Demand1InC, Demand2InCOf, Demand2InC, TurnInC, TurnLeavesInC, ReturnedInC, turn_of, AgainInC, Demand3InCOf, Demand3InC, AskIsDoneInC, GivesInC, NumbersOnceInCOf, NumbersOnceInC, ResumingInC, WideningInC}
@@ -117,21 +116,21 @@ Each P (x ∷ xs) = P x × Each P xs
 each_member : (P : ℕ → Type 0) (xs : List ℕ) → Each P xs → (number : ℕ) → any_of (eqb number) xs ≡ true → P number
 unfolding Each any_of
 each_member P [] all number e = absurd (differ (sym e))
-each_member P (x ∷ xs) all number e = go (eqb number x) refl e
+each_member P (x ∷ xs) all number e = go (eqb number x) refl e (each_member P xs all.1 number)
   where
-    go : (b : Bool) → eqb number x ≡ b → cond b true (any_of (eqb number) xs) ≡ true → P number
-    go true q r = rw (eqb-true number x q) all.0
-    go false q r = each_member P xs all.1 number r
+    go : (b : Bool) → eqb number x ≡ b → cond b true (any_of (eqb number) xs) ≡ true → (any_of (eqb number) xs ≡ true → P number) → P number
+    go true q r rest = rw (eqb-true number x q) all.0
+    go false q r rest = rest r
 
 -- a refusal of the table is known by its number and its value
 named : (number : ℕ) (values : List ℕ) → refuses all_refusals (refused number values) ≡ true → refusal_says (refusal_of number (get_or values 0 0)) ≡ refused number values
 unfolding refuses is_answer shape faults refusal_says refusal_of fault_of refusal_number number_of refusal_value values_in Each
 named number [] e =
     each_member (λ n. refusal_says (refusal_of n 0) ≡ refused n []) all_refusals.plain
-    (refl, refl, refl, refl, refl, refl, refl, refl, refl, refl, refl, refl, refl, tt) number e
+    (refl, (refl, (refl, (refl, (refl, (refl, (refl, (refl, (refl, (refl, (refl, (refl, (refl, tt))))))))))))) number e
 named number (value ∷ []) e =
     each_member (λ n. refusal_says (refusal_of n value) ≡ refused n (value ∷ [])) all_refusals.valued
-    (refl, refl, refl, refl, refl, refl, refl, refl, refl, refl, refl, tt) number e
+    (refl, (refl, (refl, (refl, (refl, (refl, (refl, (refl, (refl, (refl, (refl, tt))))))))))) number e
 named number (value ∷ other ∷ more) e = absurd (differ (sym e))
 
 -- what was answered, by how a value is read off C's answer

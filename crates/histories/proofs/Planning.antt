@@ -1,4 +1,5 @@
 -- Returns of what an ask lists, whole entries or split in any way, in any order and mixed: none of them is refused. Assumes nothing.
+use Rattle.std.specs.Prelude.{Ok}
 use mathlib.Core.Path.{◌≡◌, refl, sym, ◌∙◌, ap}
 use mathlib.Core.Bool.{Bool, true, false, cond, not, ◌||◌, ◌&&◌}
 use mathlib.Core.List.Memᴰ

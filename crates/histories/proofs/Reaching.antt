@@ -1,5 +1,5 @@
 -- Whatever calls follow a fill, the bytes are those of a sound table. Assumes nothing.
-use Rattle.std.specs.Prelude.{if◌then◌else◌}
+use Rattle.std.specs.Prelude.{if◌then◌else◌, Ok}
 use mathlib.Core.Path.{◌≡◌, refl, sym, ◌∙◌, ap}
 use mathlib.Core.Bool.{Bool, true, false}
 use mathlib.Core.List.{List, [], ◌∷◌, map}
@@ -39,7 +39,7 @@ use Rattle.audit.proofs.Exactly.{free_last, from_free, apart_tokens, exactly}
 use Rattle.access.specs.Access.{Access, access_says}
 use Rattle.desk.specs.Order.{judged_says}
 use Rattle.desk.specs.Grant.{grant_says}
-use Rattle.histories.specs.History.{Call, to_fill, to_ask, to_ask_unjudged, to_grant, to_grant_unjudged, to_grant_widest, to_grant_widest_unjudged, to_return, to_drop_host, to_audit, is_fill, Leaves, RunsBy, Runs, Reached, Resumed, Gives, judged, unjudged, widest, widest_unjudged}
+use Rattle.histories.specs.History.{Done, Call, to_fill, to_ask, to_ask_unjudged, to_grant, to_grant_unjudged, to_grant_widest, to_grant_widest_unjudged, to_return, to_drop_host, to_audit, is_fill, Leaves, RunsBy, Runs, Reached, Resumed, Gives, judged, unjudged, widest, widest_unjudged}
 use Rattle.histories.specs.Callback.{slot_at}
 use Rattle.histories.specs.Demands.{NumbersOnceOf, NumbersOnce}
 use Rattle.histories.proofs.Answers.{same_value}

@@ -15,7 +15,7 @@ use Rattle.words.specs.Realm.{unknown_realm, same_realm, realm_at}
 use Rattle.words.specs.declared.realm.Realm.{Realm}
 use Rattle.words.proofs.Tests.{differ, and_left, and_right}
 use Rattle.records.specs.Kind.{size, is_known}
-use Rattle.list.specs.Fault.{begins, no_record, fault, Seen, end_fault}
+use Rattle.list.specs.Fault.{begins, no_record, fault, end_fault}
 use Rattle.records.specs.Reading.{Read, read_as, read_of, when_whole, record_of, record_values, read_says}
 use Rattle.list.specs.Walking.{Step, seen_of, walk_after, refused_or, heard, step_of, walk_values, met_values, step_says}
 use Rattle.list.specs.declared.walk.Walk.{Walk}
@@ -58,7 +58,7 @@ use Rattle.desk.specs.Ask.{ask_says}
 use Rattle.histories.specs.Shape.{Shape, shape, is_answer, is_answer_or_end, faults, of_read, of_step, of_check, of_evaluate, of_rights, of_judge, of_plan_put, of_plan_drop, of_put, of_drop, of_fill, of_ask, of_ask_unjudged, of_grant, of_grant_unjudged, of_grant_widest, of_grant_widest_unjudged, of_return, of_drop_host}
 
 -- what is said, if it is refused, is a refusal of the shape
-unfoldable refuses : Shape → Said → Bool
+unfoldable pub refuses : Shape → Said → Bool
 refuses s (done values) = true
 refuses s (refused number values) = is_answer s (refused number values)
 
@@ -83,10 +83,10 @@ at_member test (x ∷ xs) all number e = go (eqb number x) (test x) refl refl al
 abbrev all_in : List ℕ → List ℕ → Bool
 all_in xs ys = all_of (λ n. any_of (eqb n) ys) xs
 
-unfoldable within : Shape → Shape → Bool
+unfoldable pub within : Shape → Shape → Bool
 within a b = all_in a.plain b.plain && all_in a.valued b.valued
 
-wider : (a b : Shape) → within a b ≡ true → (said : Said) → is_answer a said ≡ true → refuses b said ≡ true
+pub wider : (a b : Shape) → within a b ≡ true → (said : Said) → is_answer a said ≡ true → refuses b said ≡ true
 unfolding within refuses is_answer
 wider a b w (done values) p = refl
 wider a b w (refused number []) p = at_member (λ n. any_of (eqb n) b.plain) a.plain (and_left (all_in a.plain b.plain) (all_in a.valued b.valued) w) number p

@@ -1,4 +1,5 @@
 -- The widest grant is the grant of the given range, and no wider one would have been granted. Assumes nothing.
+use Rattle.std.specs.Prelude.{Err}
 use mathlib.Core.Path.{◌≡◌, refl, sym, ◌∙◌, ap}
 use mathlib.Core.Bool.{Bool, true, false}
 use mathlib.Core.List.{List, [], ◌∷◌, Memᴰ}
@@ -34,6 +35,7 @@ use Rattle.tokens.proofs.Widening.{with_nobody}
 use Rattle.access.specs.Access.{access_says}
 use Rattle.desk.specs.Order.{judged_says}
 use Rattle.desk.specs.Grant.{grant_says}
+use Rattle.histories.specs.History.{Counted}
 use Rattle.histories.specs.Widening.{Wider, Widening}
 use Rattle.histories.proofs.Answers.{same_values_lem}
 

@@ -1,12 +1,11 @@
 -- What a call says of what it was given, carried over to C. Assumes nothing.
 use Rattle.std.specs.Prelude.{Result}
-use mathlib.Core.Path.{◌≡◌, refl, sym, ap, subst, ◌∙◌}
+use mathlib.Core.Path.{◌≡◌, refl, ap, subst, ◌∙◌}
 use mathlib.Core.Bool.{Bool, not}
 use mathlib.Core.List.{List, [], ◌∷◌}
 use Prim.Native.Nat.{ℕ}
 use lib.Dec.{eqb}
-use Rattle.words.specs.Said.{Said, done}
-use Rattle.words.specs.Refusal.{says_by, plain_says, number_says}
+use Rattle.words.specs.Said.{done}
 use Rattle.words.specs.declared.refusal.Refusal.{Refusal}
 use Rattle.evaluate.specs.Evaluation.{Checks as ChecksList}
 use Rattle.evaluate.specs.declared.evaluation.Found.{Found}
@@ -21,7 +20,7 @@ use Rattle.tokens.specs.declared.granting.Granted.{Granted}
 use Rattle.returns.specs.Return.{Returns as ReturnsTypes}
 use Rattle.returns.specs.DropHost.{Drops as FreesHost}
 use Rattle.audit.specs.Audit.{Audits as AuditsTable}
-use Rattle.access.specs.Access.{Access, access_in}
+use Rattle.access.specs.Access.{access_in}
 use Rattle.access.specs.Needs.{Needs}
 use Rattle.desk.specs.Grant.{Grants as GrantsToken}
 use Rattle.desk.specs.Widest.{GrantsWidest as GrantsWidestToken}
