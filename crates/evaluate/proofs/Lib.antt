@@ -1,5 +1,4 @@
 pub mod Groups
-pub mod Serving
 pub mod Counting
 pub mod Masking
 pub mod Many

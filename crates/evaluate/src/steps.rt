@@ -24,20 +24,15 @@ fn when(test: bool, step: u8) -> u8
     NONE
 }
 
-fn is_owner(caller: Caller, file: File) -> bool
-    ensures { result ≡ eqb caller.user file.owner }
-{
-    caller.user == file.owner
-}
-
 // For a caller of the default realm: the kinds before user.
+#[tactic(auto, unfolding(crate::specs::Tally::step_from, crate::specs::Steps::steps, crate::specs::Steps::here, crate::specs::Steps::abroad, crate::specs::Steps::masked, crate::specs::Steps::unmasked, words::specs::Realm::same_realm))]
 fn step_by_object(groups: &[u32], caller: Caller, file: File, r: Record) -> u8
     requires { r.kind < 7 }
     ensures { result ≡ step_from 1 (steps true groups.now caller file) r }
 {
     let kind = r.kind;
     if kind == USER_OBJ {
-        return when(is_owner(caller, file), 1);
+        return when(caller.user == file.owner, 1);
     }
     if kind == GROUP_OBJ {
         return when(is_in_group(caller, groups, file.group), 3);
@@ -49,6 +44,7 @@ fn step_by_object(groups: &[u32], caller: Caller, file: File, r: Record) -> u8
 }
 
 // For a caller of the default realm. Users and groups, of which lists are long, are asked for first.
+#[tactic(auto, unfolding(crate::specs::Tally::step_from, crate::specs::Steps::steps, crate::specs::Steps::here, crate::specs::Steps::abroad, crate::specs::Steps::masked, crate::specs::Steps::unmasked, words::specs::Realm::same_realm))]
 fn step_here(groups: &[u32], caller: Caller, file: File, r: Record) -> u8
     ensures { result ≡ step_from 1 (steps true groups.now caller file) r }
 {
@@ -66,6 +62,7 @@ fn step_here(groups: &[u32], caller: Caller, file: File, r: Record) -> u8
 }
 
 // For a caller of another realm, whatever the file.
+#[tactic(auto, unfolding(crate::specs::Tally::step_from, crate::specs::Steps::steps, crate::specs::Steps::here, crate::specs::Steps::abroad, crate::specs::Steps::masked, crate::specs::Steps::unmasked, words::specs::Realm::same_realm))]
 fn step_abroad(groups: &[u32], caller: Caller, r: Record) -> u8
     ensures { (file : FileOf) → result ≡ step_from 1 (steps false groups.now caller file) r }
 {

@@ -1,7 +1,7 @@
 // What is kept of the records so far: the first step that one of them serves, and the mask.
 ghost use Rattle.std.specs.Prelude.{◌≡◌, ◌<◌};
 ghost use Rattle.list.specs.Checking.{placed};
-ghost use Rattle.evaluate.specs.Tally.{no_tally, with_mask, with_union, tallied, allowed};
+ghost use Rattle.evaluate.specs.Tally.{no_tally, tallied, allowed};
 
 use list::Record;
 use list::kind::MASK_OBJ;
@@ -39,46 +39,32 @@ pub(crate) fn no_tally() -> Tally
 }
 
 impl Tally {
-    #[tactic(auto, unfolding(crate::specs::Tally::with_mask))]
-    fn with_mask(self, r: Record) -> Tally
-        ensures { result ≡ with_mask self r }
-    {
-        Tally {
-            mask: self.mask & r.rights,
-            ..self
-        }
-    }
-
-    #[tactic(auto, unfolding(crate::specs::Tally::with_union))]
-    fn with_union(self, r: Record) -> Tally
-        ensures { result ≡ with_union self r }
-    {
-        Tally {
-            rights: self.rights | r.rights,
-            ..self
-        }
-    }
-
     // With the record at a place, which serves a step.
-    #[tactic(auto, unfolding(crate::specs::Tally::tallied, crate::specs::Tally::counted, crate::specs::Steps::is_mask, list::specs::Checking::placed))]
+    #[tactic(auto, unfolding(crate::specs::Tally::tallied, crate::specs::Tally::counted, crate::specs::Tally::with_mask, crate::specs::Tally::with_union, crate::specs::Steps::is_mask, list::specs::Checking::placed))]
     pub(crate) fn with(self, step: u8, at: usize, r: Record) -> Tally
         ensures { result ≡ tallied self step (placed at r) }
     {
         if r.kind == MASK_OBJ {
-            return self.with_mask(r);
+            return Tally {
+                mask: self.mask & r.rights,
+                ..self
+            };
         }
         if self.step < step {
             return self;
         }
         if self.step == step {
-            return self.with_union(r);
+            return Tally {
+                rights: self.rights | r.rights,
+                ..self
+            };
         }
         Tally {
             step,
             rights: r.rights,
             start: at,
             size: r.size,
-            mask: self.mask,
+            ..self
         }
     }
 
