@@ -1,20 +1,20 @@
 -- Each slot beside those before it. Assumes nothing.
 use mathlib.Core.Path.{◌≡◌, refl, sym, ◌∙◌, ap}
 use mathlib.Core.Bool.{Bool, true, false, cond, ◌&&◌, and-false}
-use mathlib.Core.List.{List, [], ◌∷◌, ◌++◌}
-use Prim.Native.Nat.{ℕ, ◌+◌, ◌*◌, ◌≤◌, ◌<◌}
+use mathlib.Core.List.{List, [], ◌∷◌, ◌++◌, map, append_assoc}
+use Prim.Native.Nat.{ℕ, zero, suc, ◌+◌, ◌-◌, ◌*◌, ◌/◌, ◌≤◌, ◌<◌}
 use native.Mathlib.Omega.{arith}
-use lib.ListN.{length, take, drop, take-append-drop}
-use lib.Seq.{take_all, take-take}
+use lib.ListN.{length, take, drop, length-append, length-drop}
+use lib.Seq.{take-add, take_at, drop_at, take-append-le, take_all, length-take-le}
 use Rattle.words.specs.Test.{all_of}
-use Rattle.words.specs.Number.{part}
-use Rattle.words.proofs.Tests.{differ, all_append}
-use Rattle.table.specs.Layout.{width, slot_of, count, table_of}
-use Rattle.table.specs.Form.{is_length}
+use Rattle.words.proofs.Tests.{differ, all_append, map_append}
+use Rattle.table.specs.Layout.{width, slot_of, cut, count, slots_in, table_of}
 use Rattle.table.specs.declared.slot.Slot.{Slot}
 use Rattle.table.specs.declared.slot.Slot.TheVariants.{Free, Held}
-use Rattle.table.proofs.Cuts.{Sized, sized, table_length, table_more}
+use Rattle.table.proofs.Cuts.{slots_length}
+use Rattle.table.proofs.Slots.{Passing, cuts, none_passed, none_of, at_slot, one_passed, all_passed}
 use Rattle.audit.specs.Audit.{apart, all_apart}
+use Rattle.audit.specs.Before.{slots_of}
 
 -- one slot more
 apart_more : (slots : List Slot) (slot : Slot) → all_apart (slots ++ (slot ∷ [])) ≡ (all_apart slots && all_of (λ before. apart before slot) slots)
@@ -39,36 +39,72 @@ apart_prefix (s ∷ ss) more e =
     go true b c q e later = rw (later (q ∙ e)) (and-false (true && b))
     go false b c q e later = refl
 
--- the first i slots, each beside those before it
-pub record Clear (bytes : List ℕ) (i : ℕ) : Type 0 where
-  pub size : Sized bytes
-  pub within : i ≤ count bytes
-  pub so_far : all_apart (take i (table_of bytes).slots) ≡ true
+-- the first i slots of bytes
+cut_take : (i n : ℕ) (bytes : List ℕ) → i ≤ n → width * n ≤ length bytes → cut i (take (width * i) bytes) ≡ take i (cut n bytes)
+unfolding cut
+cut_take zero n bytes h k = refl
+cut_take (suc i) zero bytes h k = absurd (omega arith)
+cut_take (suc i) (suc n) bytes h k =
+    let e : width * suc i ≡ width + width * i = omega arith in
+    let one : take (width * suc i) bytes ≡ take width bytes ++ take (width * i) (drop width bytes) = ap (λ (m : ℕ). take m bytes) e ∙ take-add width (width * i) bytes in
+    let long : length (take width bytes) ≡ width = length-take-le width bytes (omega arith) in
+    rw (one, take_at (take width bytes) (take (width * i) (drop width bytes)) width long, drop_at (take width bytes) (take (width * i) (drop width bytes)) width long)
+    (ap (λ (slots : List (List ℕ)). take width bytes ∷ slots) (cut_take i n (drop width bytes) (omega arith) (omega (arith, length-drop width bytes))))
+
+-- the slots that the loop has passed, each beside those before it
+pub record Clear (bytes : List ℕ) (size : ℕ) (rest : List ℕ) (i : ℕ) : Type 0 where
+  pub header : width ≤ length bytes
+  pub slots : Passing (slots_in bytes) size rest
+  pub at : i ≡ length slots.passed
+  pub so_far : all_apart (map slot_of slots.passed) ≡ true
 
 module _ (bytes : List ℕ) where
-  pub none_clear : is_length (length bytes) ≡ true → Clear bytes 0
-  unfolding all_apart
-  none_clear e = record { size = sized bytes e; within = omega arith; so_far = refl }
+  pub none_clear : {size : ℕ} {rest : List ℕ} {i : ℕ} → width ≤ length bytes → size ≡ width → rest ≡ take (length bytes - width) (drop width bytes) → i ≡ 0 → Clear bytes size rest i
+  unfolding all_apart none_passed
+  none_clear h w r z = record { header = h; slots = none_passed bytes h w r; at = z; so_far = refl }
 
-  module _ (i : ℕ) (c : Clear bytes i) where
-    module _ (h : i < count bytes) {b : Bool} {slot : Slot} (read : slot ≡ slot_of (part (width * (i + 1)) width bytes))
-        (told : b ≡ all_of (λ before. apart before slot) (take i (table_of bytes).slots)) where
-      next : all_apart (take (i + 1) (table_of bytes).slots) ≡ b
-      next =
-          ap all_apart (table_more bytes i h)
-          ∙ apart_more (take i (table_of bytes).slots) (slot_of (part (width * (i + 1)) width bytes))
-          ∙ rw (c.so_far, ← read, ← told) refl
+  module _ {size : ℕ} {rest : List ℕ} {i : ℕ} (c : Clear bytes size rest i) where
+    module _ (slot more : List ℕ) (given : (rest ≡ slot ++ more) × (length slot ≡ size)) {j : ℕ} (place : j ≡ i) where
+      -- the bytes before it are there
+      pub before_ends : width * (j + 1) ≤ length bytes
+      before_ends = omega (arith, c.header, place, c.at, slots_length bytes, ap length c.slots.whole, length-append c.slots.passed (cuts rest))
 
-      pub one_clear : b ≡ true → Clear bytes (i + 1)
-      one_clear good = record { size = c.size; within = omega arith; so_far = next ∙ good }
+      passed_before : slots_of (take (width * (j + 1) - width) (drop width bytes)) ≡ map slot_of c.slots.passed
+      unfolding slots_of slots_in
+      passed_before =
+          let n : width * (j + 1) - width ≡ width * j = omega arith in
+          let long : length (take (width * j) (drop width bytes)) ≡ width * j = length-take-le (width * j) (drop width bytes) (omega (arith, length-drop width bytes, before_ends)) in
+          let m : length (take (width * j) (drop width bytes)) / width ≡ j = omega (arith, long) in
+          let e : j ≡ length c.slots.passed = place ∙ c.at in
+          rw (n, m) (ap (map slot_of) (cut_take j (count bytes) (drop width bytes) (omega (arith, before_ends)) (omega (arith, length-drop width bytes))
+          ∙ ap (take j) c.slots.whole ∙ rw e (take-append-le (length c.slots.passed) c.slots.passed (cuts rest) (omega arith) ∙ take_all (length c.slots.passed) c.slots.passed (omega arith))))
 
-      pub one_unclear : b ≡ false → false ≡ all_apart (table_of bytes).slots
-      one_unclear bad =
-          sym (ap all_apart (sym (take-append-drop (i + 1) (table_of bytes).slots))
-          ∙ apart_prefix (take (i + 1) (table_of bytes).slots) (drop (i + 1) (table_of bytes).slots) (next ∙ bad))
+      module _ {b : Bool} {value : Slot} (read : value ≡ slot_of slot) (told : b ≡ all_of (λ before. apart before value) (slots_of (take (width * (j + 1) - width) (drop width bytes)))) where
+        next : all_apart (map slot_of (c.slots.passed ++ slot ∷ [])) ≡ b
+        next =
+            ap all_apart (map_append slot_of c.slots.passed (slot ∷ []))
+            ∙ apart_more (map slot_of c.slots.passed) (slot_of slot)
+            ∙ rw (c.so_far, ← read, ← passed_before, ← told) refl
 
-    pub all_clear : count bytes ≤ i → true ≡ all_apart (table_of bytes).slots
-    all_clear h = sym c.so_far ∙ ap all_apart (take_all i (table_of bytes).slots (rw (table_length bytes) h))
+        pub one_clear : {size' : ℕ} {i' : ℕ} → b ≡ true → size' ≡ size → i' ≡ i + 1 → Clear bytes size' more i'
+        unfolding one_passed
+        one_clear good w n = record {
+          header = c.header;
+          slots = one_passed c.slots slot more given w;
+          at = n ∙ omega (arith, c.at, length-append c.slots.passed (slot ∷ []));
+          so_far = next ∙ good;
+        }
+
+        pub one_unclear : b ≡ false → false ≡ all_apart (table_of bytes).slots
+        unfolding table_of
+        one_unclear bad =
+            sym (ap (λ (slots : List (List ℕ)). all_apart (map slot_of slots)) (at_slot c.slots slot more given ∙ sym (append_assoc c.slots.passed (slot ∷ []) (cuts more)))
+            ∙ ap all_apart (map_append slot_of (c.slots.passed ++ slot ∷ []) (cuts more))
+            ∙ apart_prefix (map slot_of (c.slots.passed ++ slot ∷ [])) (map slot_of (cuts more)) (next ∙ bad))
+
+    pub all_clear : length rest < size → true ≡ all_apart (table_of bytes).slots
+    unfolding table_of
+    all_clear h = sym c.so_far ∙ ap (λ (slots : List (List ℕ)). all_apart (map slot_of slots)) (sym (all_passed c.slots h))
 
 -- a free slot is apart from all
 pub free_apart : (slots : List Slot) → true ≡ all_of (λ before. apart before Free) slots
@@ -77,42 +113,33 @@ free_apart [] = refl
 free_apart (Free ∷ ss) = free_apart ss
 free_apart (Held number claim ∷ ss) = free_apart ss
 
--- one token beside the first i of the slots before it
-pub record Beside (bytes : List ℕ) (end : ℕ) (slot : Slot) (i : ℕ) : Type 0 where
-  pub size : Sized bytes
-  pub within : i ≤ end
-  pub inside : end ≤ count bytes
-  pub so_far : all_of (λ before. apart before slot) (take i (table_of bytes).slots) ≡ true
+-- one token beside the slots that the loop has passed
+pub record Beside (before : List ℕ) (slot : Slot) (size : ℕ) (rest : List ℕ) : Type 0 where
+  pub slots : Passing (cuts before) size rest
+  pub so_far : all_of (λ other. apart other slot) (map slot_of slots.passed) ≡ true
 
-module _ (bytes : List ℕ) (end : ℕ) (slot : Slot) where
-  pub none_beside : is_length (length bytes) ≡ true → end ≤ count bytes → Beside bytes end slot 0
-  unfolding all_of
-  none_beside e h = record { size = sized bytes e; within = omega arith; inside = h; so_far = refl }
+module _ {before : List ℕ} (slot : Slot) where
+  pub none_beside : {size : ℕ} {rest : List ℕ} → size ≡ width → rest ≡ before → Beside before slot size rest
+  unfolding all_of none_of
+  none_beside w r = record { slots = none_of before w r; so_far = refl }
 
-  module _ (i : ℕ) (c : Beside bytes end slot i) where
-    module _ (h : i < end) {b : Bool} {before : Slot} (read : before ≡ slot_of (part (width * (i + 1)) width bytes)) (told : b ≡ apart before slot) where
-      beside_next : all_of (λ before. apart before slot) (take (i + 1) (table_of bytes).slots) ≡ b
-      unfolding all_of
-      beside_next =
-          ap (all_of (λ before. apart before slot)) (table_more bytes i (omega (arith, c.inside)))
-          ∙ all_append (λ before. apart before slot) (take i (table_of bytes).slots) (slot_of (part (width * (i + 1)) width bytes) ∷ [])
-          ∙ rw (c.so_far, ← read, ← told) (only b)
-        where
-          only : (b : Bool) → cond b true false ≡ b
-          only true = refl
-          only false = refl
+  module _ {size : ℕ} {rest : List ℕ} (c : Beside before slot size rest) where
+    module _ (bytes more : List ℕ) (given : (rest ≡ bytes ++ more) × (length bytes ≡ size)) {b : Bool} {other : Slot} (read : other ≡ slot_of bytes) (told : b ≡ apart other slot) where
+      pub one_beside : {size' : ℕ} → b ≡ true → size' ≡ size → Beside before slot size' more
+      unfolding all_of one_passed
+      one_beside good w = record {
+        slots = one_passed c.slots bytes more given w;
+        so_far = ap (all_of (λ other. apart other slot)) (map_append slot_of c.slots.passed (bytes ∷ []))
+            ∙ all_append (λ other. apart other slot) (map slot_of c.slots.passed) (slot_of bytes ∷ []) ∙ rw (c.so_far, ← read, ← told, good) refl;
+      }
 
-      pub one_beside : b ≡ true → Beside bytes end slot (i + 1)
-      one_beside good = record { size = c.size; within = omega arith; inside = c.inside; so_far = beside_next ∙ good }
-
-      pub one_against : b ≡ false → false ≡ all_of (λ before. apart before slot) (take end (table_of bytes).slots)
+      pub one_against : b ≡ false → false ≡ all_of (λ other. apart other slot) (slots_of before)
+      unfolding all_of slots_of cuts
       one_against bad =
-          let slots = take end (table_of bytes).slots in
-          let front : take (i + 1) slots ≡ take (i + 1) (table_of bytes).slots = take-take (i + 1) end (table_of bytes).slots (omega arith) in
-          sym (ap (all_of (λ before. apart before slot)) (sym (take-append-drop (i + 1) slots))
-          ∙ all_append (λ before. apart before slot) (take (i + 1) slots) (drop (i + 1) slots)
-          ∙ rw (front, beside_next, bad) refl)
+          sym (ap (λ (slots : List (List ℕ)). all_of (λ other. apart other slot) (map slot_of slots)) (at_slot c.slots bytes more given)
+          ∙ ap (all_of (λ other. apart other slot)) (map_append slot_of c.slots.passed (bytes ∷ cuts more))
+          ∙ all_append (λ other. apart other slot) (map slot_of c.slots.passed) (slot_of bytes ∷ map slot_of (cuts more)) ∙ rw (c.so_far, ← read, ← told, bad) refl)
 
-    pub all_beside : end ≤ i → true ≡ all_of (λ before. apart before slot) (take end (table_of bytes).slots)
-    all_beside h =
-        let e : i ≡ end = omega (arith, c.within) in sym c.so_far ∙ ap (λ (k : ℕ). all_of (λ before. apart before slot) (take k (table_of bytes).slots)) e
+    pub all_beside : length rest < size → true ≡ all_of (λ other. apart other slot) (slots_of before)
+    unfolding slots_of cuts
+    all_beside h = sym c.so_far ∙ ap (λ (slots : List (List ℕ)). all_of (λ other. apart other slot) (map slot_of slots)) (sym (all_passed c.slots h))

@@ -1,24 +1,23 @@
 // Each token beside those before it.
-ghost use Rattle.std.specs.Prelude.{◌≡◌, true, ◌≤◌, length, take};
+ghost use Rattle.std.specs.Prelude.{◌≡◌, ◌≤◌, length};
 ghost use Rattle.words.specs.Test.{all_of};
-ghost use Rattle.table.specs.Layout.{count, table_of};
-ghost use Rattle.table.specs.Form.{is_length};
+ghost use Rattle.table.specs.Layout.{width, table_of};
 ghost use Rattle.table.specs.declared.slot.Slot.TheVariants.{Held};
 ghost use Rattle.audit.specs.Audit.{apart, all_apart, Audits};
+ghost use Rattle.audit.specs.Before.{slots_of};
 
 use claims::{Claim, conflict};
 use table::{Slot, WIDTH, read_slot, well_formed};
 
 // Another number and no conflict.
+#[tactic(auto, unfolding(crate::specs::Audit::apart))]
 fn tokens_apart(given: u64, held: Claim, number: u64, claim: Claim) -> bool
     ensures { result ≡ apart (Held given held) (Held number claim) }
 {
-    if given == number {
-        return false;
-    }
-    conflict(held, claim) == 0
+    given != number && conflict(held, claim) == 0
 }
 
+#[tactic(auto, unfolding(crate::specs::Audit::apart))]
 fn is_apart(slot: Slot, number: u64, claim: Claim) -> bool
     ensures { result ≡ apart slot (Held number claim) }
 {
@@ -31,44 +30,35 @@ fn is_apart(slot: Slot, number: u64, claim: Claim) -> bool
     }
 }
 
-// The first slots beside a token.
-fn are_apart(table: &[u8], end: usize, number: u64, claim: Claim) -> bool
-    requires { (is_length (length table.now) ≡ true) × (end ≤ count table.now) }
-    ensures { result ≡ all_of (λ slot. apart slot (Held number claim)) (take end (table_of table.now).slots) }
+// The slots before a token beside it.
+fn are_apart(before: &[u8], number: u64, claim: Claim) -> bool
+    ensures { result ≡ all_of (λ slot. apart slot (Held number claim)) (slots_of before.now) }
 {
-    let mut i = 0;
-    while i < end {
-        let at = WIDTH * (i + 1);
-        if !is_apart(read_slot(&table[at..at + WIDTH]), number, claim) {
+    for slot in before.chunks_exact(WIDTH) {
+        if !is_apart(read_slot(slot), number, claim) {
             return false;
         }
-        i += 1;
     }
     true
 }
 
-fn is_clear(table: &[u8], end: usize, slot: Slot) -> bool
-    requires { (is_length (length table.now) ≡ true) × (end ≤ count table.now) }
-    ensures { result ≡ all_of (λ before. apart before slot) (take end (table_of table.now).slots) }
+fn is_clear(before: &[u8], slot: Slot) -> bool
+    ensures { result ≡ all_of (λ other. apart other slot) (slots_of before.now) }
 {
     match slot {
         Slot::Free => true,
-        Slot::Held { number, claim } => are_apart(table, end, number, claim),
+        Slot::Held { number, claim } => are_apart(before, number, claim),
     }
 }
 
 fn all_clear(table: &[u8]) -> bool
-    requires { is_length (length table.now) ≡ true }
+    requires { width ≤ length table.now }
     ensures { result ≡ all_apart (table_of table.now).slots }
 {
-    let n = table.len() / WIDTH - 1;
-    let mut i = 0;
-    while i < n {
-        let at = WIDTH * (i + 1);
-        if !is_clear(table, i, read_slot(&table[at..at + WIDTH])) {
+    for (i, slot) in table[WIDTH..].chunks_exact(WIDTH).enumerate() {
+        if !is_clear(&table[WIDTH..WIDTH * (i + 1)], read_slot(slot)) {
             return false;
         }
-        i += 1;
     }
     true
 }

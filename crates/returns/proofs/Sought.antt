@@ -14,7 +14,7 @@ use Rattle.table.proofs.Places.{position_more, position_here}
 
 -- none of the slots that the loop has passed, which are i, passes the test
 pub record Missed (bytes : List ℕ) (test : Slot → Bool) (size : ℕ) (rest : List ℕ) (i : ℕ) : Type 0 where
-  pub slots : Passing bytes size rest
+  pub slots : Passing (slots_in bytes) size rest
   pub at : i ≡ length slots.passed
   pub none : position test (map slot_of slots.passed) ≡ None
 

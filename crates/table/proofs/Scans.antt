@@ -12,7 +12,7 @@ use Rattle.table.proofs.Slots.{Passing, cuts, none_passed, at_slot, one_passed, 
 
 -- the slots that the loop has passed are well formed
 pub record Checked (bytes : List ℕ) (top next size : ℕ) (rest : List ℕ) : Type 0 where
-  pub slots : Passing bytes size rest
+  pub slots : Passing (slots_in bytes) size rest
   pub good : all_of (is_slot top next) slots.passed ≡ true
 
 module _ {bytes : List ℕ} (top next : ℕ) where

@@ -17,13 +17,18 @@ cuts_cons slot more e =
     let n : length (slot ++ more) / width ≡ suc (length more / width) = rw (length-append slot more, e) (omega arith) in
     rw (n, take_at slot more width e, drop_at slot more width e) refl
 
-pub record Passing (bytes : List ℕ) (size : ℕ) (rest : List ℕ) : Type 0 where
+-- of all slots, those that are passed and those that are left
+pub record Passing (all : List (List ℕ)) (size : ℕ) (rest : List ℕ) : Type 0 where
   pub passed : List (List ℕ)
   pub wide : size ≡ width
-  pub whole : slots_in bytes ≡ passed ++ cuts rest
+  pub whole : all ≡ passed ++ cuts rest
+
+-- when the loop begins: at bytes without a header, and at a table
+unfoldable pub none_of : (bytes : List ℕ) {size : ℕ} {rest : List ℕ} → size ≡ width → rest ≡ bytes → Passing (cuts bytes) size rest
+none_of bytes wide e = record { passed = []; wide = wide; whole = ap cuts (sym e) }
 
 unfoldable pub none_passed : (bytes : List ℕ) → width ≤ length bytes → {size : ℕ} {rest : List ℕ} → size ≡ width → rest ≡ take (length bytes - width) (drop width bytes)
-    → Passing bytes size rest
+    → Passing (slots_in bytes) size rest
 unfolding slots_in cuts
 none_passed bytes h {size} {rest} wide e =
     let l : length (drop width bytes) ≡ length bytes - width = length-drop width bytes in
@@ -31,15 +36,15 @@ none_passed bytes h {size} {rest} wide e =
     let n : length (drop width bytes) / width ≡ count bytes = rw l (omega arith) in
     record { passed = []; wide = wide; whole = rw (all, n) refl }
 
-module _ {bytes : List ℕ} {size : ℕ} {rest : List ℕ} (p : Passing bytes size rest) where
+module _ {all : List (List ℕ)} {size : ℕ} {rest : List ℕ} (p : Passing all size rest) where
   module _ (slot more : List ℕ) (next : (rest ≡ slot ++ more) × (length slot ≡ size)) where
-    pub at_slot : slots_in bytes ≡ p.passed ++ slot ∷ cuts more
+    pub at_slot : all ≡ p.passed ++ slot ∷ cuts more
     at_slot = p.whole ∙ ap (λ (slots : List (List ℕ)). p.passed ++ slots) (ap cuts next.0 ∙ cuts_cons slot more (next.1 ∙ p.wide))
 
-    unfoldable pub one_passed : {size' : ℕ} → size' ≡ size → Passing bytes size' more
+    unfoldable pub one_passed : {size' : ℕ} → size' ≡ size → Passing all size' more
     one_passed e = record { passed = p.passed ++ slot ∷ []; wide = e ∙ p.wide; whole = at_slot ∙ sym (append_assoc p.passed (slot ∷ []) (cuts more)) }
 
-  pub all_passed : length rest < size → slots_in bytes ≡ p.passed
+  pub all_passed : length rest < size → all ≡ p.passed
   unfolding cuts cut
   all_passed h =
       let n : length rest / width ≡ 0 = omega (arith, p.wide) in

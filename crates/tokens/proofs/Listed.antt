@@ -110,7 +110,7 @@ listed claim bytes = refl
 
 -- what was written of the slots that the loop has passed
 pub record Noted (bytes : List ℕ) (claim : Claim) (out₀ out : List ℕ) (end at size : ℕ) (rest : List ℕ) : Type 0 where
-  pub slots : Passing bytes size rest
+  pub slots : Passing (slots_in bytes) size rest
   pub same : length out ≡ length out₀
   pub room : end ≤ length out₀
   pub whole : end ≡ length (list_for claim (table_of bytes))

@@ -1,5 +1,6 @@
 use mathlib.Core.Path.{sym, ◌∙◌}
-use Rattle.table.proofs.Tables.{form_length}
+use native.Mathlib.Omega.{arith}
+use Rattle.table.proofs.Tables.{form_size}
 use Rattle.audit.specs.Audit.{sound}
 use Rattle.audit.proofs.auditing.audit.Goals as goal
 
@@ -9,7 +10,7 @@ returns-then-not-well_formed c = record { answer = simp (← c.well_formed-2.ens
 
 pub all_clear-requires : goal.all_clear-requires
 unfolding sound
-all_clear-requires c = form_length c.args.table.now (sym c.well_formed-2.ensures.answer ∙ c.if-not-well_formed.false)
+all_clear-requires c = let w = (form_size c.args.table.now (sym c.well_formed-2.ensures.answer ∙ c.if-not-well_formed.false)).whole in omega arith
 
 pub returns : goal.returns
 unfolding sound
