@@ -28,17 +28,17 @@ module _ (q r : Record) where
   higher_kind h = rw (le-ltb q.kind r.kind (omega arith), ne_eqb q.kind r.kind (λ e. omega arith), lt-ltb r.kind q.kind h) refl
 
   -- else the bodies tell, of an entry's kind
-  module _ (one : q.kind ≡ r.kind) (entry : is_entry q.kind ≡ true) {b : Bool} (told : b ≡ body_rises q r) where
+  module _ (one : q.kind ≡ r.kind) (entry : is_entry q.kind ≡ true) {h : Record} (head : h ≡ q) {b : Bool} (told : b ≡ body_rises h r) where
     rising : b ≡ rises q r
-    rising = let many = is_above q.kind entry in by_body q r one (λ e. omega arith) told
+    rising = let many = is_above q.kind entry in by_body q r one (λ e. omega arith) (rw head at told)
 
     pub is_before : b ≡ true → Less ≡ side_of q r
     unfolding side_of
     is_before t = rw (sym rising ∙ t) refl
 
-    module _ (stays : b ≡ false) {c : Bool} (back : c ≡ body_rises r q) where
+    module _ (stays : b ≡ false) {c : Bool} (back : c ≡ body_rises r h) where
       falling : c ≡ rises r q
-      falling = let many = is_above q.kind entry in by_body r q (sym one) (λ e. omega arith) back
+      falling = let many = is_above q.kind entry in by_body r q (sym one) (λ e. omega arith) (rw head at back)
 
       pub is_after : c ≡ true → Greater ≡ side_of q r
       unfolding side_of

@@ -14,12 +14,12 @@ returns-then-r-kind c = let t = c.args.tail.now in higher_kind (record_of (get_o
 
 pub returns-then-bodies_in_order : goal.returns-then-bodies_in_order
 unfolding record_of
-returns-then-bodies_in_order c = let t = c.args.tail.now in is_before (record_of (get_or t 0 0) t) c.args.r (omega arith) c.requires.0 (rw (c.head_of-q.ensures) at c.bodies_in_order.ensures.answer) c.if-bodies_in_order.true
+returns-then-bodies_in_order c = let t = c.args.tail.now in is_before (record_of (get_or t 0 0) t) c.args.r (omega arith) c.requires.0 c.head_of-q.ensures c.bodies_in_order.ensures.answer c.if-bodies_in_order.true
 
 pub returns-then-bodies_in_order-2 : goal.returns-then-bodies_in_order-2
 unfolding record_of
-returns-then-bodies_in_order-2 c = let t = c.args.tail.now in is_after (record_of (get_or t 0 0) t) c.args.r (omega arith) c.requires.0 (rw (c.head_of-q.ensures) at c.bodies_in_order.ensures.answer) c.if-bodies_in_order.false (rw (c.head_of-q.ensures) at c.bodies_in_order-2.ensures.answer) c.if-bodies_in_order-2.true
+returns-then-bodies_in_order-2 c = let t = c.args.tail.now in is_after (record_of (get_or t 0 0) t) c.args.r (omega arith) c.requires.0 c.head_of-q.ensures c.bodies_in_order.ensures.answer c.if-bodies_in_order.false c.bodies_in_order-2.ensures.answer c.if-bodies_in_order-2.true
 
 pub returns : goal.returns
 unfolding record_of
-returns c = let t = c.args.tail.now in is_same (record_of (get_or t 0 0) t) c.args.r (omega arith) c.requires.0 (rw (c.head_of-q.ensures) at c.bodies_in_order.ensures.answer) c.if-bodies_in_order.false (rw (c.head_of-q.ensures) at c.bodies_in_order-2.ensures.answer) c.if-bodies_in_order-2.false
+returns c = let t = c.args.tail.now in is_same (record_of (get_or t 0 0) t) c.args.r (omega arith) c.requires.0 c.head_of-q.ensures c.bodies_in_order.ensures.answer c.if-bodies_in_order.false c.bodies_in_order-2.ensures.answer c.if-bodies_in_order-2.false
