@@ -107,10 +107,11 @@ module _ {list : List ℕ} {entry : Entry} {r : Record} {s : Spot} (located : Lo
   put_judged_lem n e =
       rw (← is_record) (put_verdict_lem list located.bytes located.passing r above fits_r s.at n place (put_long n e ∙ rw (← is_record) refl))
 
-  pub drop_judged_lem : (n : ℕ) → n + s.size ≡ length list → check_says (dropping list entry) ≡ drop_verdict r.kind s.at n
-  unfolding dropping
+  pub drop_judged_lem : (n : ℕ) → n + s.size ≡ length list → check_says (dropping list entry) ≡ drop_verdict entry.kind s.at n
+  unfolding dropping record_for
   drop_judged_lem n e =
       rw (← is_record) (drop_verdict_lem list located.bytes located.passing r above fits_r s.at n place (drop_long n e ∙ rw (← is_record) refl))
+      ∙ ap (λ (q : Record). drop_verdict q.kind s.at n) is_record
 
   pub told : ltb 0 s.size ≡ has_entry list entry
   unfolding has_entry

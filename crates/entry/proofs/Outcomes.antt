@@ -91,17 +91,17 @@ module _ {list : List ℕ} {entry : Entry} where
         }
 
       module _ (long : n + s.size ≡ length list) (some : 0 < s.size) where
-        drop_new : drop_judged list entry ≡ drop_verdict r.kind s.at n
+        drop_new : drop_judged list entry ≡ drop_verdict entry.kind s.at n
         unfolding drop_judged and_then
         drop_new =
             let there : has_entry list entry ≡ true = sym (told located) ∙ lt-ltb 0 s.size some in
             rw (located.passing, is_entered located, there) (drop_judged_lem located n long)
 
-        pub drop_refused : {e : Refusal} → plain_says (Err e) ≡ drop_verdict r.kind s.at n → PlansDrop list entry (Err e)
+        pub drop_refused : {e : Refusal} → plain_says (Err e) ≡ drop_verdict entry.kind s.at n → PlansDrop list entry (Err e)
         unfolding says_by
         drop_refused {e} judged = record { answer = stops e (drop_judged list entry) _ (drop_new ∙ sym judged) }
 
-        pub drop_fine : {none : Unit {0}} → plain_says (Ok none) ≡ drop_verdict r.kind s.at n → PlansDrop list entry (Ok (plan_at s 0 n))
+        pub drop_fine : {none : Unit {0}} → plain_says (Ok none) ≡ drop_verdict entry.kind s.at n → PlansDrop list entry (Ok (plan_at s 0 n))
         unfolding says_by and_then
         drop_fine judged = record {
           answer = rw (drop_new ∙ sym judged) (λ j. plan_says (Ok (plan_at (spot_is located j) 0 (drop_long located n long j))));

@@ -48,13 +48,12 @@ pub fn plan_drop(list: &[u8], entry: Entry) -> Result<Plan, Refusal>
     ensures { PlansDrop list.now entry result }
 {
     check(list, entry.kind)?;
-    let r = record_of(entry);
-    let spot = find(list, r);
+    let spot = find(list, record_of(entry));
     if spot.size == 0 {
         return Err(Refusal::NothingToDrop);
     }
     let total = list.len() - spot.size;
-    judge_drop(r.kind, spot.at, total)?;
+    judge_drop(entry.kind, spot.at, total)?;
     Ok(Plan {
         spot,
         size: 0,

@@ -9,8 +9,8 @@ ghost use Rattle.entry.specs.Plan.{spot_for};
 ghost use Rattle.entry.specs.Spot.{side_of, has_mask};
 
 use crate::entries::{Entry, id_length, realm_length, record_of};
-use list::Record;
 use list::kind::MASK_OBJ;
+use list::{Record, bodies_in_order};
 use std::cmp::Ordering;
 use words::{Realm, number_at, realm_at};
 
@@ -52,17 +52,28 @@ fn size_of(kind: u8) -> usize
 
 // Where the record that a tail begins with stands by r. Where the kinds differ they tell, and no more is read; else the bodies tell,
 // since no entry is of kind 1.
-#[tactic(auto, unfolding(records::specs::Reading::record_of), using(records::proofs::Bodies::some_size, crate::proofs::Sides::kinds_tell, crate::proofs::Sides::bodies_tell))]
+// Test by test: `cmp` of the kinds makes a put into a list of 31 bytes a sixth slower, `cmp` of the bodies costs a record 8
+// instructions more.
+#[tactic(auto, unfolding(records::specs::Reading::record_of), using(records::proofs::Bodies::some_size))]
 fn side_of(tail: &[u8], r: Record) -> Ordering
     requires { (is_entry (get_or tail.now 0 0) ≡ true) × (size (get_or tail.now 0 0) ≤ length tail.now) }
     ensures { result ≡ side_of (record_of (get_or tail.now 0 0) tail.now) r }
 {
     let kind = tail[0];
-    if kind != r.kind {
-        return kind.cmp(&r.kind);
+    if kind < r.kind {
+        return Ordering::Less;
+    }
+    if r.kind < kind {
+        return Ordering::Greater;
     }
     let q = head_of(tail);
-    (q.realm, q.id).cmp(&(r.realm, r.id))
+    if bodies_in_order(q, r) {
+        return Ordering::Less;
+    }
+    if bodies_in_order(r, q) {
+        return Ordering::Greater;
+    }
+    Ordering::Equal
 }
 
 // The spot of r in a list that passed.
