@@ -1,0 +1,94 @@
+// What a command is answered.
+use crate::mistake::Mistake;
+use crate::texts::{Text, text};
+use std::fmt;
+
+#[derive(Clone, Copy)]
+pub enum Answer {
+    Done,
+    // With a length, a count or a token's number.
+    Number(u64),
+    // The rights that types need.
+    Needed(u8),
+    // A token of the widest range.
+    Granted {
+        number: u64,
+        first: u64,
+        last: u64,
+    },
+    // The rights, and the deciding record by its place and length.
+    Rights {
+        rights: u8,
+        place: usize,
+        size: usize,
+    },
+    Audited(bool),
+    // The bytes of the table or of the list, or so many of the output buffer.
+    Table,
+    List,
+    Out(usize),
+    Line(Text),
+}
+
+// Why a command was not done.
+#[derive(Clone, Copy)]
+pub enum Failure {
+    Mistake(Mistake),
+    // With the place for 10 to 19, or for 35 the true count.
+    Refused { number: u8, value: Option<u64> },
+}
+
+pub type Said = Result<Answer, Failure>;
+
+impl From<Mistake> for Failure {
+    fn from(mistake: Mistake) -> Failure {
+        Failure::Mistake(mistake)
+    }
+}
+
+// Bytes are not told here but in hex, from their buffer.
+impl fmt::Display for Answer {
+    fn fmt<W: fmt::Write>(&self, f: &mut fmt::Formatter<W>) -> fmt::Result {
+        match self {
+            Answer::Done => write!(f, "done"),
+            Answer::Number(n) => write!(f, "done {n}"),
+            Answer::Needed(rights) => write!(f, "done {rights}"),
+            Answer::Granted {
+                number,
+                first,
+                last,
+            } => write!(f, "done {number} {first} {last}"),
+            Answer::Rights {
+                rights,
+                place,
+                size,
+            } => write!(f, "done {rights} {place} {size}"),
+            Answer::Audited(sound) => f.write_str(if *sound { "yes" } else { "no" }),
+            Answer::Line(line) => write!(f, "{line}"),
+            Answer::Table | Answer::List | Answer::Out(_) => Ok(()),
+        }
+    }
+}
+
+impl fmt::Display for Failure {
+    fn fmt<W: fmt::Write>(&self, f: &mut fmt::Formatter<W>) -> fmt::Result {
+        match self {
+            Failure::Mistake(mistake) => write!(f, "error {mistake}"),
+            Failure::Refused {
+                number,
+                value: Some(value),
+            } => write!(f, "refused {number} {value}"),
+            Failure::Refused {
+                number,
+                value: None,
+            } => write!(f, "refused {number}"),
+        }
+    }
+}
+
+pub(crate) fn line_of(said: &Said) -> Text {
+    match said {
+        Ok(answer) => text(answer),
+        Err(failure) => text(failure),
+    }
+}
