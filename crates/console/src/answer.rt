@@ -46,6 +46,12 @@ impl From<Mistake> for Failure {
     }
 }
 
+impl Answer {
+    pub(crate) fn length(bytes: &[u8]) -> Answer {
+        Answer::Number(bytes.len() as u64)
+    }
+}
+
 // Bytes are not told here but in hex, from their buffer.
 impl fmt::Display for Answer {
     fn fmt<W: fmt::Write>(&self, f: &mut fmt::Formatter<W>) -> fmt::Result {

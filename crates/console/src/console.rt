@@ -1,5 +1,5 @@
 // The console: its buffers, what it remembers from line to line, and the answer to each line.
-use crate::answer::{Answer, Failure, Said, line_of};
+use crate::answer::{Answer, Said, line_of};
 use crate::command::Command;
 use crate::expecting::Score;
 use crate::helping::help;
@@ -93,21 +93,18 @@ impl Console {
     // What a line comes to: nothing, an answer that is held against the line, or one that is told. Answers whether it is `quit`.
     fn turn(&mut self, rt: &impl Files, line: &[u8], number: u64) -> bool {
         match command_of(line) {
-            Ok(None) => false,
-            Ok(Some(Command::Expect)) => {
-                self.expect(line, number);
-                false
-            }
+            Ok(None) => {}
+            Ok(Some(Command::Expect)) => self.expect(line, number),
             Ok(Some(command)) => {
                 self.obey(rt, command, line);
-                command == Command::Quit
+                return command == Command::Quit;
             }
             Err(mistake) => {
-                self.last = Err(Failure::Mistake(mistake));
+                self.last = Err(mistake.into());
                 self.tell(&self.last);
-                false
             }
         }
+        false
     }
 
     // The answer, and with words on what it means.

@@ -41,15 +41,12 @@ pub(crate) fn load(rt: &impl Files, name: &[u8], table: &mut Table) -> Said {
     }
     *table = ArrayVec::from(bytes);
     table.truncate(n);
-    Ok(Answer::Number(n as u64))
+    Ok(Answer::length(table))
 }
 
 // A file that takes another's place has its mode.
 fn keep_mode(file: &impl OpenFile, mode: Option<Permissions>) -> bool {
-    match mode {
-        Some(mode) => file.set_permissions(mode).is_ok(),
-        None => true,
-    }
+    mode.is_none_or(|mode| file.set_permissions(mode).is_ok())
 }
 
 // All of the bytes, until they have reached the device; then the file is closed.
@@ -61,7 +58,7 @@ fn write_out(
     let moded = keep_mode(&file, mode);
     let written = file.write_all(bytes).is_ok();
     let synced = file.sync_all().is_ok();
-    moded & written & synced
+    moded && written && synced
 }
 
 fn why_not_made(why: Error) -> Mistake {
@@ -117,5 +114,5 @@ pub(crate) fn save(rt: &impl Files, name: &[u8], table: &[u8]) -> Said {
     let mode = mode_of(rt, file)?;
     let new = new_name(file).ok_or(Mistake::NotOpened)?;
     replace(rt, file, mode, new.as_str(), table)?;
-    Ok(Answer::Number(table.len() as u64))
+    Ok(Answer::length(table))
 }

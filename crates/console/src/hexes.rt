@@ -11,7 +11,10 @@ const PIECE: usize = 256;
 
 // The byte of two digits.
 fn byte(pair: &[u8]) -> Option<u8> {
-    u8::try_from(digits(pair, 16)?).ok()
+    match pair {
+        [_, _] => u8::try_from(digits(pair, 16)?).ok(),
+        _ => None,
+    }
 }
 
 // No bytes.
@@ -19,25 +22,16 @@ pub(crate) fn is_dash(word: &[u8]) -> bool {
     matches!(word, b"-")
 }
 
-// Bytes, two digits for each, or '-'.
-fn are_bytes(word: &[u8]) -> bool {
-    match word {
-        b"-" => true,
-        [] => false,
-        digits => digits.len() % 2 == 0 && digits.iter().all(|digit| digit.is_ascii_hexdigit()),
+// The bytes of a word, two digits for each, or '-' for none; no word has more than there is room for.
+pub(crate) fn bytes_in<const N: usize>(word: &[u8]) -> Option<ArrayVec<u8, N>> {
+    let mut bytes = ArrayVec::new();
+    if is_dash(word) {
+        return Some(bytes);
     }
-}
-
-// The bytes of a word take the place of a buffer's, as many as there is room for. Else the buffer stays as it is.
-pub(crate) fn take<const N: usize>(word: &[u8], buffer: &mut ArrayVec<u8, N>) -> Option<usize> {
-    if !are_bytes(word) {
-        return None;
+    for pair in word.chunks(2) {
+        let _ = bytes.try_push(byte(pair)?);
     }
-    buffer.clear();
-    for pair in word.chunks_exact(2) {
-        let _ = buffer.try_push(byte(pair)?);
-    }
-    Some(buffer.len())
+    (!bytes.is_empty()).then_some(bytes)
 }
 
 pub(crate) fn realm(word: &[u8]) -> Option<Realm> {
@@ -82,10 +76,5 @@ pub(crate) fn is_spelled(bytes: &[u8], word: &[u8]) -> bool {
     if bytes.is_empty() {
         return is_dash(word);
     }
-    word.len() % 2 == 0
-        && word.len() / 2 == bytes.len()
-        && word
-            .chunks_exact(2)
-            .zip(bytes)
-            .all(|(pair, told)| byte(pair) == Some(*told))
+    word.chunks(2).map(byte).eq(bytes.iter().copied().map(Some))
 }

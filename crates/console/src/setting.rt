@@ -18,10 +18,6 @@ const MOST_SLOTS: usize = 1597;
 // The place of the first further group among the words of a line.
 const FURTHER: usize = 4;
 
-fn length(n: usize) -> Said {
-    Ok(Answer::Number(n as u64))
-}
-
 fn caller_in(line: &[u8]) -> Option<Caller> {
     Some(Caller {
         realm: hexes::realm(word(line, 1))?,
@@ -60,18 +56,20 @@ fn mode_guard_in(line: &[u8]) -> Option<Guard> {
 impl Console {
     pub(crate) fn set_table(&mut self, line: &[u8]) -> Said {
         if matches!(word(line, 1), b"hex") {
-            return length(hexes::take(word(line, 2), &mut self.table).ok_or(Mistake::Bytes)?);
+            self.table = hexes::bytes_in(word(line, 2)).ok_or(Mistake::Bytes)?;
+            return Ok(Answer::length(&self.table));
         }
         let (Some(slots), 2) = (at_most(word(line, 1), MOST_SLOTS), count(line)) else {
             return Err(Mistake::Slots.into());
         };
         self.table = ArrayVec::from([0; 65536]);
         self.table.truncate((1 + slots) * WIDTH);
-        length(self.table.len())
+        Ok(Answer::length(&self.table))
     }
 
     pub(crate) fn set_list(&mut self, line: &[u8]) -> Said {
-        length(hexes::take(word(line, 1), &mut self.list).ok_or(Mistake::Bytes)?)
+        self.list = hexes::bytes_in(word(line, 1)).ok_or(Mistake::Bytes)?;
+        Ok(Answer::length(&self.list))
     }
 
     // The first bytes of the output buffer become the list: as many as LENGTH says, or else what the last edit wrote.
@@ -82,7 +80,7 @@ impl Console {
         };
         self.list = ArrayVec::from(self.out.bytes);
         self.list.truncate(kept);
-        length(self.list.len())
+        Ok(Answer::length(&self.list))
     }
 
     pub(crate) fn set_room(&mut self, line: &[u8]) -> Said {
