@@ -56,7 +56,7 @@ impl Answer {
 impl fmt::Display for Answer {
     fn fmt<W: fmt::Write>(&self, f: &mut fmt::Formatter<W>) -> fmt::Result {
         match self {
-            Answer::Done => write!(f, "done"),
+            Answer::Done => f.write_str("done"),
             Answer::Number(n) => write!(f, "done {n}"),
             Answer::Needed(rights) => write!(f, "done {rights}"),
             Answer::Granted {
@@ -70,7 +70,7 @@ impl fmt::Display for Answer {
                 size,
             } => write!(f, "done {rights} {place} {size}"),
             Answer::Audited(sound) => f.write_str(if *sound { "yes" } else { "no" }),
-            Answer::Line(line) => write!(f, "{line}"),
+            Answer::Line(line) => f.write_str(line.as_str()),
             Answer::Table | Answer::List | Answer::Out(_) => Ok(()),
         }
     }

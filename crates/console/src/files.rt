@@ -25,7 +25,7 @@ fn fill(file: &mut impl Read, bytes: &mut [u8]) -> usize {
 // No byte is left, and that could be seen.
 fn is_ended(file: &mut impl Read) -> bool {
     let mut next = [0u8; 1];
-    file.read(&mut next).is_ok_and(|n| n == 0)
+    matches!(file.read(&mut next), Ok(0))
 }
 
 fn name_in(word: &[u8]) -> Result<&str, Mistake> {
@@ -44,18 +44,13 @@ pub(crate) fn load(rt: &impl Files, name: &[u8], table: &mut Table) -> Said {
     Ok(Answer::length(table))
 }
 
-// A file that takes another's place has its mode.
-fn keep_mode(file: &impl OpenFile, mode: Option<Permissions>) -> bool {
-    mode.is_none_or(|mode| file.set_permissions(mode).is_ok())
-}
-
-// All of the bytes, until they have reached the device; then the file is closed.
+// All of the bytes, with the mode of the file whose place this one takes, until they have reached the device; then it is closed.
 fn write_out(
     mut file: impl OpenFile + Write + Drop,
     mode: Option<Permissions>,
     bytes: &[u8],
 ) -> bool {
-    let moded = keep_mode(&file, mode);
+    let moded = mode.is_none_or(|mode| file.set_permissions(mode).is_ok());
     let written = file.write_all(bytes).is_ok();
     let synced = file.sync_all().is_ok();
     moded && written && synced

@@ -3,20 +3,20 @@ use crate::amounts::amount;
 use std::fmt;
 
 pub(crate) const TYPES: [&str; 8] = [
-    "data_read",
-    "data_write",
-    "status_read",
-    "status_write",
-    "lock_read",
-    "lock_write",
-    "open_shared",
-    "open_exclusive",
+    "data read",
+    "data write",
+    "status read",
+    "status write",
+    "lock read",
+    "lock write",
+    "open shared",
+    "open exclusive",
 ];
 
 pub(crate) const RIGHTS: [&str; 6] = ["read", "write", "execute", "control", "insert", "delete"];
 
 // The letters of the rights.
-const LETTERS: [u8; 6] = *b"rwxcid";
+const LETTERS: [&str; 6] = ["r", "w", "x", "c", "i", "d"];
 
 // Each at the place of its number, from 1 on.
 const KINDS: [&str; 12] = [
@@ -34,11 +34,13 @@ const KINDS: [&str; 12] = [
     "foreign_other",
 ];
 
-// These letters are a name; '-' may stand for '_'.
+// These letters are a name; one word that has '-' or '_' between the name's.
 fn is_name(letters: &[u8], name: &str) -> bool {
     letters.len() == name.len()
-        && letters.iter().zip(name.as_bytes()).all(|(typed, letter)| typed == letter
-            || (*typed == b'-' && *letter == b'_'))
+        && letters.iter().zip(name.as_bytes()).all(|(typed, letter)| match letter {
+            b'_' | b' ' => matches!(typed, b'-' | b'_'),
+            _ => typed == letter,
+        })
 }
 
 // Which of some names this one is.
@@ -63,7 +65,7 @@ fn letters_in(word: &[u8]) -> Option<u8> {
     let mut set = 0;
     for letter in word {
         if *letter != b'-' {
-            set = joined(set, LETTERS.iter().position(|known| known == letter)?)?;
+            set = joined(set, place_among(&[*letter], &LETTERS)?)?;
         }
     }
     (set != 0 || word.len() == 6).then_some(set)
@@ -71,22 +73,24 @@ fn letters_in(word: &[u8]) -> Option<u8> {
 
 // Types, as a number or by name.
 pub(crate) fn types_in(word: &[u8]) -> Option<u16> {
-    amount(word).or_else(|| set_in(word, &TYPES).map(u16::from))
+    amount(word).or(set_in(word, &TYPES).map(u16::from))
 }
 
 // Rights, as a number, by letters or by name.
 pub(crate) fn rights_in(word: &[u8]) -> Option<u8> {
-    amount(word)
-        .or_else(|| letters_in(word))
-        .or_else(|| set_in(word, &RIGHTS))
+    amount(word).or(letters_in(word)).or(set_in(word, &RIGHTS))
+}
+
+fn kind_named(name: &[u8]) -> Option<u8> {
+    match place_among(name, &KINDS)? {
+        0 => None,
+        kind => u8::try_from(kind).ok(),
+    }
 }
 
 // A kind, as a number or by name.
 pub(crate) fn kind_in(word: &[u8]) -> Option<u8> {
-    amount(word).or_else(|| {
-        let kind = place_among(word, &KINDS).filter(|kind| *kind != 0)?;
-        u8::try_from(kind).ok()
-    })
+    amount(word).or(kind_named(word))
 }
 
 pub(crate) fn kind_name(kind: u8) -> &'static str {
@@ -101,14 +105,6 @@ pub struct Names<'a> {
     pub before: &'static str,
 }
 
-// A name of one word or two.
-fn spoken<W: fmt::Write>(name: &str, f: &mut fmt::Formatter<W>) -> fmt::Result {
-    match name.split_once('_') {
-        Some((first, second)) => write!(f, "{first} {second}"),
-        None => f.write_str(name),
-    }
-}
-
 impl fmt::Display for Names<'_> {
     fn fmt<W: fmt::Write>(&self, f: &mut fmt::Formatter<W>) -> fmt::Result {
         let mut gap = self.before;
@@ -116,7 +112,7 @@ impl fmt::Display for Names<'_> {
         for name in self.names {
             if set % 2 == 1 {
                 f.write_str(gap)?;
-                spoken(name, f)?;
+                f.write_str(name)?;
                 gap = ", ";
             }
             set /= 2;
@@ -133,11 +129,7 @@ impl fmt::Display for Letters {
     fn fmt<W: fmt::Write>(&self, f: &mut fmt::Formatter<W>) -> fmt::Result {
         let mut rights = self.0;
         for letter in LETTERS {
-            f.write_char(if rights % 2 == 1 {
-                char::from(letter)
-            } else {
-                '-'
-            })?;
+            f.write_str(if rights % 2 == 1 { letter } else { "-" })?;
             rights /= 2;
         }
         Ok(())
