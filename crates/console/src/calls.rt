@@ -42,13 +42,13 @@ fn realm_of(kind: u8, word: &[u8]) -> Option<Realm> {
     realm(word)
 }
 
-fn entry_in(line: &[u8], rights: u8) -> Option<Entry> {
+fn entry_in(line: &[u8], rights: Option<u8>) -> Option<Entry> {
     let kind = kind_in(word(line, 1))?;
     Some(Entry {
         kind,
         realm: realm_of(kind, word(line, 2))?,
         id: amount(word(line, 3))?,
-        rights,
+        rights: rights?,
     })
 }
 
@@ -100,6 +100,7 @@ impl Console {
         ))
     }
 
+    // Written out: a closure's type for the call of `grant` or this one is longer than what they share.
     pub(crate) fn grant_widest(&mut self, line: &[u8]) -> Said {
         let claim = claim_in(line).ok_or(Mistake::Claim)?;
         reply(desk::grant_widest(
@@ -127,7 +128,7 @@ impl Console {
     }
 
     pub(crate) fn put(&mut self, line: &[u8]) -> Said {
-        let rights = rights_in(word(line, 4)).ok_or(Mistake::Entry)?;
+        let rights = rights_in(word(line, 4));
         let entry = entry_in(line, rights).ok_or(Mistake::Entry)?;
         let edit = put_entry(&self.list, entry, self.out.lent());
         self.out.after_edit(edited(edit))
@@ -136,8 +137,8 @@ impl Console {
     // The rights of a drop may be given, and are ignored.
     pub(crate) fn unput(&mut self, line: &[u8]) -> Said {
         let rights = match word(line, 4) {
-            [] => 0,
-            given => rights_in(given).ok_or(Mistake::Entry)?,
+            [] => Some(0),
+            given => rights_in(given),
         };
         let entry = entry_in(line, rights).ok_or(Mistake::Entry)?;
         let edit = drop_entry(&self.list, entry, self.out.lent());

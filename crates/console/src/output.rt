@@ -3,7 +3,7 @@ use crate::answer::{Answer, Failure, Said};
 
 pub(crate) const SIZE: usize = 16384;
 
-#[derive(Clone, Copy)]
+#[derive(Drop)]
 pub struct Output {
     pub bytes: [u8; SIZE],
     // How many bytes are lent to a call.
@@ -21,6 +21,7 @@ impl Output {
         }
     }
 
+    // A ghost field for the bound of the room would leave this with no proof, so it is taken here.
     pub(crate) fn lent(&mut self) -> &mut [u8] {
         let room = self.room.min(SIZE);
         let bytes = &mut self.bytes[..];

@@ -23,6 +23,5 @@ pub(crate) fn print(said: &impl Display) {
 }
 
 pub(crate) fn print_line(said: &impl Display) {
-    print(said);
-    write(b"\n");
+    print(&format_args!("{said}\n"));
 }
