@@ -6,11 +6,14 @@ pub(crate) fn digits(letters: &[u8], base: u32) -> Option<u64>
     requires low { 2 ≤ base }
     requires high { base ≤ 36 }
 {
-    letters.iter().try_fold(0u64, |n, letter| {
+    let mut n = 0u64;
+    for letter in letters {
         let digit = char::from(*letter).to_digit(base)?;
-        n.checked_mul(u64::from(base))?
-            .checked_add(u64::from(digit))
-    })
+        n = n
+            .checked_mul(u64::from(base))?
+            .checked_add(u64::from(digit))?;
+    }
+    Some(n)
 }
 
 // A decimal number; the first of several digits is no zero.

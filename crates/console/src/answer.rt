@@ -52,24 +52,33 @@ impl Answer {
     }
 }
 
+fn done<W: fmt::Write>(f: &mut fmt::Formatter<W>, n: u64) -> fmt::Result {
+    write!(f, "done {n}")
+}
+
+fn done_with<W: fmt::Write>(f: &mut fmt::Formatter<W>, n: u64, a: u64, b: u64) -> fmt::Result {
+    write!(f, "done {n} {a} {b}")
+}
+
 // Bytes are not told here but in hex, from their buffer.
 impl fmt::Display for Answer {
     fn fmt<W: fmt::Write>(&self, f: &mut fmt::Formatter<W>) -> fmt::Result {
         match self {
             Answer::Done => f.write_str("done"),
-            Answer::Number(n) => write!(f, "done {n}"),
-            Answer::Needed(rights) => write!(f, "done {rights}"),
+            Answer::Number(n) => done(f, *n),
+            Answer::Needed(rights) => done(f, u64::from(*rights)),
             Answer::Granted {
                 number,
                 first,
                 last,
-            } => write!(f, "done {number} {first} {last}"),
+            } => done_with(f, *number, *first, *last),
             Answer::Rights {
                 rights,
                 place,
                 size,
-            } => write!(f, "done {rights} {place} {size}"),
-            Answer::Audited(sound) => f.write_str(if *sound { "yes" } else { "no" }),
+            } => done_with(f, u64::from(*rights), *place as u64, *size as u64),
+            Answer::Audited(true) => f.write_str("yes"),
+            Answer::Audited(false) => f.write_str("no"),
             Answer::Line(line) => f.write_str(line.as_str()),
             Answer::Table | Answer::List | Answer::Out(_) => Ok(()),
         }

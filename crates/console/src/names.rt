@@ -56,8 +56,11 @@ fn joined(set: u8, place: usize) -> Option<u8> {
 
 // The set of the names that a word joins, each of them once.
 fn set_in(word: &[u8], names: &[&str]) -> Option<u8> {
-    word.split(|letter| matches!(letter, b'+' | b',' | b'|'))
-        .try_fold(0, |set, name| joined(set, place_among(name, names)?))
+    let mut set = 0;
+    for name in word.split(|letter| matches!(letter, b'+' | b',' | b'|')) {
+        set = joined(set, place_among(name, names)?)?;
+    }
+    Some(set)
 }
 
 // The rights of letters; six dashes are none.
