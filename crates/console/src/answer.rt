@@ -1,10 +1,12 @@
 // What a command is answered.
+use crate::command::Command;
 use crate::mistake::Mistake;
-use crate::texts::{Text, text};
 use std::fmt;
 
 #[derive(Clone, Copy)]
 pub enum Answer {
+    // Before the first command.
+    Nothing,
     Done,
     // With a length, a count or a token's number.
     Number(u64),
@@ -23,11 +25,20 @@ pub enum Answer {
         size: usize,
     },
     Audited(bool),
-    // The bytes of the table or of the list, or so many of the output buffer.
+    // How a command's line is written.
+    Usage(Command),
+    // How many answers were as expected, and how many not.
+    Score {
+        met: u64,
+        missed: u64,
+    },
+    // What the console remembers, and tells itself: bytes in hex, or the line that would set it.
     Table,
     List,
     Out(usize),
-    Line(Text),
+    Caller,
+    File,
+    Guard,
 }
 
 // Why a command was not done.
@@ -60,7 +71,7 @@ fn done_with<W: fmt::Write>(f: &mut fmt::Formatter<W>, n: u64, a: u64, b: u64) -
     write!(f, "done {n} {a} {b}")
 }
 
-// Bytes are not told here but in hex, from their buffer.
+// What the console tells itself is nothing here.
 impl fmt::Display for Answer {
     fn fmt<W: fmt::Write>(&self, f: &mut fmt::Formatter<W>) -> fmt::Result {
         match self {
@@ -79,8 +90,9 @@ impl fmt::Display for Answer {
             } => done_with(f, u64::from(*rights), *place as u64, *size as u64),
             Answer::Audited(true) => f.write_str("yes"),
             Answer::Audited(false) => f.write_str("no"),
-            Answer::Line(line) => f.write_str(line.as_str()),
-            Answer::Table | Answer::List | Answer::Out(_) => Ok(()),
+            Answer::Usage(command) => f.write_str(command.usage()),
+            Answer::Score { met, missed } => write!(f, "{met} as expected, {missed} not"),
+            _ => Ok(()),
         }
     }
 }
@@ -98,12 +110,5 @@ impl fmt::Display for Failure {
                 value: None,
             } => write!(f, "refused {number}"),
         }
-    }
-}
-
-pub(crate) fn line_of(said: &Said) -> Text {
-    match said {
-        Ok(answer) => text(answer),
-        Err(failure) => text(failure),
     }
 }

@@ -1,5 +1,5 @@
 // The console: its buffers, what it remembers from line to line, and the answer to each line.
-use crate::answer::{Answer, Said, line_of};
+use crate::answer::{Answer, Said};
 use crate::command::Command;
 use crate::expecting::Score;
 use crate::helping::help;
@@ -9,8 +9,9 @@ use crate::meaning::mean;
 use crate::mistake::Mistake;
 use crate::output::Output;
 use crate::reading::{LONGEST, Letters, next_line};
+use crate::showing::{caller_line, file_line, guard_line, show};
 use crate::spaced::{count, word};
-use crate::texts::{Text, print_line};
+use crate::texts::{Text, print_line, text};
 use crate::{files, hexes};
 use arrayvec::ArrayVec;
 use evaluate::{Caller, File};
@@ -72,7 +73,7 @@ impl Console {
                 dir: false,
             },
             guard: Guard::List,
-            last: Ok(Answer::Line(Text::new())),
+            last: Ok(Answer::Nothing),
             score: Score { met: 0, missed: 0 },
             words: false,
         }
@@ -128,7 +129,7 @@ impl Console {
             Command::File => self.set_file(line),
             Command::Guard => self.set_guard(line),
             Command::Room => self.set_room(line),
-            Command::Show => self.show(line),
+            Command::Show => show(line),
             Command::Held => held(&self.table),
             Command::Records => records(&self.list),
             Command::Total => Ok(self.score.total()),
@@ -160,11 +161,22 @@ impl Console {
         }
     }
 
+    // The line of an answer that shows no bytes.
+    pub(crate) fn line_of(&self, said: &Said) -> Text {
+        match said {
+            Ok(Answer::Caller) => caller_line(self.caller, &self.groups),
+            Ok(Answer::File) => file_line(self.file),
+            Ok(Answer::Guard) => guard_line(self.guard),
+            Ok(answer) => text(answer),
+            Err(failure) => text(failure),
+        }
+    }
+
     // An answer, as a line.
     pub(crate) fn tell(&self, said: &Said) {
         match self.shown(said) {
             Some(bytes) => hexes::print_line(bytes),
-            None => print_line(&line_of(said)),
+            None => print_line(&self.line_of(said)),
         }
     }
 }

@@ -1,9 +1,9 @@
 // Answers held against what was expected.
-use crate::answer::{Answer, line_of};
+use crate::answer::Answer;
 use crate::console::Console;
 use crate::hexes;
 use crate::spaced::trimmed;
-use crate::texts::{print, text, write};
+use crate::texts::{print, write};
 
 // How many answers were as expected, and how many not.
 #[derive(Clone, Copy)]
@@ -15,7 +15,7 @@ pub struct Score {
 impl Score {
     pub(crate) fn total(self) -> Answer {
         let Score { met, missed } = self;
-        Answer::Line(text(&format_args!("{met} as expected, {missed} not")))
+        Answer::Score { met, missed }
     }
 
     fn count(&mut self, met: bool) {
@@ -31,7 +31,7 @@ impl Console {
     fn is_last(&self, wanted: &[u8]) -> bool {
         match self.shown(&self.last) {
             Some(bytes) => hexes::is_spelled(bytes, wanted),
-            None => line_of(&self.last).as_str().as_bytes() == wanted,
+            None => self.line_of(&self.last).as_str().as_bytes() == wanted,
         }
     }
 

@@ -1,7 +1,6 @@
 // The buffers in hex, and the lines that would set the caller, the file and its guard.
 use crate::amounts::at_most;
 use crate::answer::{Answer, Said};
-use crate::console::Console;
 use crate::mistake::Mistake;
 use crate::output::SIZE;
 use crate::spaced::{count, word};
@@ -11,7 +10,7 @@ use rights::Guard;
 use std::fmt::Write;
 use words::Realm;
 
-fn caller_line(caller: Caller, groups: &[u32]) -> Text {
+pub(crate) fn caller_line(caller: Caller, groups: &[u32]) -> Text {
     let Caller {
         realm: Realm { hi, lo },
         user,
@@ -24,13 +23,13 @@ fn caller_line(caller: Caller, groups: &[u32]) -> Text {
     line
 }
 
-fn file_line(file: File) -> Text {
+pub(crate) fn file_line(file: File) -> Text {
     let File { owner, group, dir } = file;
     let what = if dir { "dir" } else { "file" };
     text(&format_args!("file {owner} {group} {what}"))
 }
 
-fn guard_line(guard: Guard) -> Text {
+pub(crate) fn guard_line(guard: Guard) -> Text {
     match guard {
         Guard::List => text(&"guard list"),
         Guard::Mode {
@@ -40,16 +39,14 @@ fn guard_line(guard: Guard) -> Text {
     }
 }
 
-impl Console {
-    pub(crate) fn show(&self, line: &[u8]) -> Said {
-        Ok(match (word(line, 1), count(line)) {
-            (b"table", 2) => Answer::Table,
-            (b"list", 2) => Answer::List,
-            (b"caller", 2) => Answer::Line(caller_line(self.caller, &self.groups)),
-            (b"file", 2) => Answer::Line(file_line(self.file)),
-            (b"guard", 2) => Answer::Line(guard_line(self.guard)),
-            (b"out", _) => Answer::Out(at_most(word(line, 2), SIZE).ok_or(Mistake::Shown)?),
-            _ => return Err(Mistake::Shown.into()),
-        })
-    }
+pub(crate) fn show(line: &[u8]) -> Said {
+    Ok(match (word(line, 1), count(line)) {
+        (b"table", 2) => Answer::Table,
+        (b"list", 2) => Answer::List,
+        (b"caller", 2) => Answer::Caller,
+        (b"file", 2) => Answer::File,
+        (b"guard", 2) => Answer::Guard,
+        (b"out", _) => Answer::Out(at_most(word(line, 2), SIZE).ok_or(Mistake::Shown)?),
+        _ => return Err(Mistake::Shown.into()),
+    })
 }
