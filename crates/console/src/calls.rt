@@ -1,210 +1,147 @@
 // The calls, on what the console remembers.
-ghost use Rattle.std.specs.Prelude.{◌≤◌};
-
-use crate::amounts::{MOST_16, MOST_32, MOST_64, amount};
-use crate::hexes::{are_bytes, file_id, is_dash, realm};
-use crate::memory::{Memory, least};
+use crate::amounts::amount;
+use crate::answer::{Answer, Said};
+use crate::console::Console;
+use crate::hexes::{file_id, is_dash, realm};
+use crate::mistake::Mistake;
 use crate::names::{kind_in, rights_in, types_in};
-use crate::says::{done_with, edited, error, found, reply, verdict};
+use crate::says::{edited, found, reply, verdict};
 use crate::spaced::word;
-use crate::texts::{Line, answer, first, text};
-use crate::{command, kind};
 use access::needed_rights;
 use claims::Claim;
 use edit::{Entry, drop_entry, put_entry};
-use evaluate::{File, check_list};
+use evaluate::check_list;
+use list::kind::{FOREIGN_OTHER, FOREIGN_USER};
 use rights::decide;
+use words::Realm;
 
-pub(crate) fn fill(table: &mut [u8]) -> Line {
-    reply(desk::fill(table))
+fn claim_in(line: &[u8]) -> Option<Claim> {
+    Some(Claim {
+        host: amount(word(line, 1))?,
+        types: types_in(word(line, 2))?,
+        file: file_id(word(line, 3))?,
+        first: amount(word(line, 4))?,
+        last: amount(word(line, 5))?,
+    })
 }
 
-pub(crate) fn drop_host(line: &[u8], table: &mut [u8]) -> Line {
-    let host = amount(word(line, 1), MOST_16);
-    if !host.fits {
-        return error(b"HOST is a number up to 65535");
-    }
-    reply(desk::drop_host(table, host.value as u16))
-}
-
-pub(crate) fn audit(table: &[u8]) -> Line {
-    if desk::audit(table) {
-        return answer(kind::WORDS, 1, b"yes");
-    }
-    text(b"no")
-}
-
-// The rights that types need on the file.
-pub(crate) fn needs(line: &[u8], file: File) -> Line {
-    let types = types_in(word(line, 1));
-    if !types.fits {
-        return error(b"TYPES is a number up to 65535");
-    }
-    done_with(needed_rights(types.value as u16, file.dir) as u64)
-}
-
-// A claim, if the words say one.
-#[derive(Clone, Copy)]
-pub struct Request {
-    pub fits: bool,
-    pub claim: Claim,
-}
-
-fn request_in(line: &[u8]) -> Request {
-    let host = amount(word(line, 1), MOST_16);
-    let types = types_in(word(line, 2));
-    let file = word(line, 3);
-    let from = amount(word(line, 4), MOST_64);
-    let to = amount(word(line, 5), MOST_64);
-    Request {
-        fits: host.fits & types.fits & are_bytes(file, 12) & from.fits & to.fits,
-        claim: Claim {
-            types: types.value as u16,
-            host: host.value as u16,
-            file: file_id(file),
-            first: from.value,
-            last: to.value,
-        },
-    }
-}
-
-fn misspelled_request() -> Line {
-    error(
-        b"HOST and TYPES are numbers up to 65535, FILE is 24 hex digits, FIRST and LAST are numbers of 64 bits",
-    )
-}
-
-pub(crate) fn ask(
-    line: &[u8],
-    memory: Memory,
-    table: &[u8],
-    list: &[u8],
-    groups: &[u32],
-    out: &mut [u8],
-) -> Line {
-    let request = request_in(line);
-    if !request.fits {
-        return misspelled_request();
-    }
-    let claim = request.claim;
-    let caller = memory.caller;
-    let file = memory.file;
-    let guard = memory.guard;
-    let o = least(memory.room, out.len());
-    reply(desk::ask(
-        first(table, memory.table),
-        claim,
-        list,
-        groups,
-        caller,
-        file,
-        guard,
-        &mut out[0..o],
+// The host, the number and the types of a return.
+fn return_in(line: &[u8]) -> Option<(u16, u64, u16)> {
+    Some((
+        amount(word(line, 1))?,
+        amount(word(line, 2))?,
+        types_in(word(line, 3))?,
     ))
 }
 
-// A token with the asked range, or with the widest one.
-pub(crate) fn grant(
-    command: usize,
-    line: &[u8],
-    memory: Memory,
-    table: &mut [u8],
-    list: &[u8],
-    groups: &[u32],
-) -> Line {
-    let request = request_in(line);
-    if !request.fits {
-        return misspelled_request();
-    }
-    let claim = request.claim;
-    let caller = memory.caller;
-    let file = memory.file;
-    let guard = memory.guard;
-    let t = least(memory.table, table.len());
-    let table = &mut table[0..t];
-    if command == command::WIDEST {
-        return reply(desk::grant_widest(table, claim, list, groups, caller, file, guard));
-    }
-    reply(desk::grant(table, claim, list, groups, caller, file, guard))
-}
-
-pub(crate) fn give_back(line: &[u8], table: &mut [u8]) -> Line {
-    let host = amount(word(line, 1), MOST_16);
-    let number = amount(word(line, 2), MOST_64);
-    let types = types_in(word(line, 3));
-    if !(host.fits & number.fits & types.fits) {
-        return error(b"HOST and TYPES are numbers up to 65535, NUMBER is one of 64 bits");
-    }
-    reply(desk::give_back(table, host.value as u16, number.value, types.value as u16))
-}
-
-pub(crate) fn check(list: &[u8]) -> Line {
-    verdict(check_list(list))
-}
-
-pub(crate) fn rights(memory: Memory, list: &[u8], groups: &[u32]) -> Line {
-    let caller = memory.caller;
-    let file = memory.file;
-    let guard = memory.guard;
-    found(decide(list, groups, caller, file, guard))
-}
-
-// An entry, if the words say one.
-#[derive(Clone, Copy)]
-pub struct Item {
-    pub fits: bool,
-    pub entry: Entry,
-}
-
 // A realm where the kind has one; elsewhere it may be left out.
-fn is_realm(word: &[u8], kind: u64) -> bool {
-    if are_bytes(word, 16) {
-        return true;
+fn realm_of(kind: u8, word: &[u8]) -> Option<Realm> {
+    if is_dash(word) && (kind < FOREIGN_USER || FOREIGN_OTHER < kind) {
+        return Some(Realm { hi: 0, lo: 0 });
     }
-    is_dash(word) & ((kind < 9) | (11 < kind))
+    realm(word)
 }
 
-fn item_in(line: &[u8], rights: u64) -> Item
-    requires { rights ≤ 255 }
-{
-    let kind = kind_in(word(line, 1));
-    let name = word(line, 2);
-    let id = amount(word(line, 3), MOST_32);
-    Item {
-        fits: kind.fits & is_realm(name, kind.value) & id.fits,
-        entry: Entry {
-            kind: kind.value as u8,
-            realm: realm(name),
-            id: id.value as u32,
-            rights: rights as u8,
-        },
-    }
+fn entry_in(line: &[u8], rights: Option<u8>) -> Option<Entry> {
+    let kind = kind_in(word(line, 1))?;
+    Some(Entry {
+        kind,
+        realm: realm_of(kind, word(line, 2))?,
+        id: amount(word(line, 3))?,
+        rights: rights?,
+    })
 }
 
-fn misspelled_entry() -> Line {
-    error(
-        b"KIND and RIGHTS are numbers up to 255, REALM is 32 hex digits or - where the kind has none, ID is a number of 32 bits",
-    )
-}
-
-pub(crate) fn put(line: &[u8], list: &[u8], out: &mut [u8]) -> Line {
-    let rights = rights_in(word(line, 4));
-    let item = item_in(line, rights.value);
-    if !(item.fits & rights.fits) {
-        return misspelled_entry();
+impl Console {
+    pub(crate) fn fill(&mut self) -> Said {
+        reply(desk::fill(&mut self.table))
     }
-    let entry = item.entry;
-    edited(put_entry(list, entry, out))
-}
 
-// The rights byte of a drop may be given, and is ignored.
-pub(crate) fn unput(line: &[u8], list: &[u8], out: &mut [u8]) -> Line {
-    let given = word(line, 4);
-    let rights = rights_in(given);
-    let item = item_in(line, rights.value);
-    if !(item.fits & (rights.fits | (given.len() == 0))) {
-        return misspelled_entry();
+    pub(crate) fn drop_host(&mut self, line: &[u8]) -> Said {
+        let host = amount(word(line, 1)).ok_or(Mistake::Host)?;
+        reply(desk::drop_host(&mut self.table, host))
     }
-    let entry = item.entry;
-    edited(drop_entry(list, entry, out))
+
+    pub(crate) fn audit(&self) -> Said {
+        Ok(Answer::Audited(desk::audit(&self.table)))
+    }
+
+    // The rights that types need on the file.
+    pub(crate) fn needs(&self, line: &[u8]) -> Said {
+        let types = types_in(word(line, 1)).ok_or(Mistake::Types)?;
+        Ok(Answer::Needed(needed_rights(types, self.file.dir)))
+    }
+
+    pub(crate) fn ask(&mut self, line: &[u8]) -> Said {
+        let claim = claim_in(line).ok_or(Mistake::Claim)?;
+        let said = reply(desk::ask(
+            &self.table,
+            claim,
+            &self.list,
+            &self.groups,
+            self.caller,
+            self.file,
+            self.guard,
+            self.out.lent(),
+        ));
+        self.out.after_ask(said)
+    }
+
+    pub(crate) fn grant(&mut self, line: &[u8]) -> Said {
+        let claim = claim_in(line).ok_or(Mistake::Claim)?;
+        reply(desk::grant(
+            &mut self.table,
+            claim,
+            &self.list,
+            &self.groups,
+            self.caller,
+            self.file,
+            self.guard,
+        ))
+    }
+
+    // Written out: a closure's type for the call of `grant` or this one is longer than what they share.
+    pub(crate) fn grant_widest(&mut self, line: &[u8]) -> Said {
+        let claim = claim_in(line).ok_or(Mistake::Claim)?;
+        reply(desk::grant_widest(
+            &mut self.table,
+            claim,
+            &self.list,
+            &self.groups,
+            self.caller,
+            self.file,
+            self.guard,
+        ))
+    }
+
+    pub(crate) fn give_back(&mut self, line: &[u8]) -> Said {
+        let (host, number, types) = return_in(line).ok_or(Mistake::Return)?;
+        reply(desk::give_back(&mut self.table, host, number, types))
+    }
+
+    pub(crate) fn check(&self) -> Said {
+        verdict(check_list(&self.list))
+    }
+
+    pub(crate) fn rights(&self) -> Said {
+        found(decide(&self.list, &self.groups, self.caller, self.file, self.guard))
+    }
+
+    pub(crate) fn put(&mut self, line: &[u8]) -> Said {
+        let rights = rights_in(word(line, 4));
+        let entry = entry_in(line, rights).ok_or(Mistake::Entry)?;
+        let edit = put_entry(&self.list, entry, self.out.lent());
+        self.out.after_edit(edited(edit))
+    }
+
+    // The rights of a drop may be given, and are ignored.
+    pub(crate) fn unput(&mut self, line: &[u8]) -> Said {
+        let rights = match word(line, 4) {
+            [] => Some(0),
+            given => rights_in(given),
+        };
+        let entry = entry_in(line, rights).ok_or(Mistake::Entry)?;
+        let edit = drop_entry(&self.list, entry, self.out.lent());
+        self.out.after_edit(edited(edit))
+    }
 }

@@ -1,11 +1,12 @@
 // The table's bytes from a file and to one.
+use crate::answer::{Answer, Said};
+use crate::console::Table;
 use crate::looking::{is_regular, may_be_written};
-use crate::says::{done_with, error};
-use crate::spaced::word;
-use crate::texts::{Line, first, paste};
+use crate::mistake::Mistake;
+use arrayvec::{ArrayString, ArrayVec};
 use std::fs;
 use std::fs::{Metadata, OpenFile, OpenOptions, Permissions};
-use std::io::{ErrorKind, Read, Write};
+use std::io::{Error, ErrorKind, Read, Write};
 use std::rt::Files;
 
 // How many bytes of a buffer the file filled, until it ended or could not be read.
@@ -24,54 +25,42 @@ fn fill(file: &mut impl Read, bytes: &mut [u8]) -> usize {
 // No byte is left, and that could be seen.
 fn is_ended(file: &mut impl Read) -> bool {
     let mut next = [0u8; 1];
-    match file.read(&mut next) {
-        Ok(n) => n == 0,
-        Err(_) => false,
-    }
+    matches!(file.read(&mut next), Ok(0))
 }
 
-fn read_all(file: &mut impl Read, table: &mut [u8]) -> Line {
+fn name_in(word: &[u8]) -> Result<&str, Mistake> {
+    str::from_utf8(word).map_err(|_| Mistake::NotOpened)
+}
+
+pub(crate) fn load(rt: &impl Files, name: &[u8], table: &mut Table) -> Said {
+    let mut file = fs::open(rt, name_in(name)?).map_err(|_| Mistake::NotOpened)?;
     let mut bytes = [0u8; 65536];
-    let n = fill(file, &mut bytes);
-    if !is_ended(file) {
-        return error(b"FILE cannot be read, or has more than 65536 bytes");
+    let n = fill(&mut file, &mut bytes);
+    if !is_ended(&mut file) {
+        return Err(Mistake::NotRead.into());
     }
-    paste(first(&bytes, n), table, 0);
-    done_with(n as u64)
+    *table = ArrayVec::from(bytes);
+    table.truncate(n);
+    Ok(Answer::length(table))
 }
 
-fn load_from(rt: &impl Files, file: &str, table: &mut [u8]) -> Line {
-    match fs::open(rt, file) {
-        Ok(mut opened) => read_all(&mut opened, table),
-        Err(_) => error(b"FILE cannot be opened"),
-    }
-}
-
-pub(crate) fn load(rt: &impl Files, line: &[u8], table: &mut [u8]) -> Line {
-    match str::from_utf8(word(line, 1)) {
-        Ok(file) => load_from(rt, file, table),
-        Err(_) => error(b"FILE cannot be opened"),
-    }
-}
-
-// A file that takes another's place has its mode.
-fn keep_mode(file: &impl OpenFile, mode: Option<Permissions>) -> bool {
-    match mode {
-        Some(mode) => file.set_permissions(mode).is_ok(),
-        None => true,
-    }
-}
-
-// All of the bytes, until they have reached the device; then the file is closed.
+// All of the bytes, with the mode of the file whose place this one takes, until they have reached the device; then it is closed.
 fn write_out(
     mut file: impl OpenFile + Write + Drop,
     mode: Option<Permissions>,
     bytes: &[u8],
 ) -> bool {
-    let moded = keep_mode(&file, mode);
+    let moded = mode.is_none_or(|mode| file.set_permissions(mode).is_ok());
     let written = file.write_all(bytes).is_ok();
     let synced = file.sync_all().is_ok();
-    moded & written & synced
+    moded && written && synced
+}
+
+fn why_not_made(why: Error) -> Mistake {
+    match why.kind() {
+        ErrorKind::AlreadyExists => Mistake::NewIsThere,
+        _ => Mistake::NotOpened,
+    }
 }
 
 // The bytes under a new name, which then takes the file's place. Where that fails the new name is gone, and the file is as it was.
@@ -81,64 +70,44 @@ fn replace(
     mode: Option<Permissions>,
     new: &str,
     bytes: &[u8],
-) -> Line {
-    match OpenOptions::new()
+) -> Result<(), Mistake> {
+    let made = OpenOptions::new()
         .write(true)
         .create_new(true)
         .open(rt, new)
-    {
-        Ok(made) => {
-            if write_out(made, mode, bytes) {
-                if fs::rename(rt, new, file).is_ok() {
-                    return done_with(bytes.len() as u64);
-                }
-            }
-            let _gone = fs::remove_file(rt, new).is_ok();
-            error(b"FILE cannot be written")
-        }
-        Err(why) => {
-            if why.kind() == ErrorKind::AlreadyExists {
-                return error(b"FILE.new is there already");
-            }
-            error(b"FILE cannot be opened")
-        }
+        .map_err(why_not_made)?;
+    if write_out(made, mode, bytes) && fs::rename(rt, new, file).is_ok() {
+        return Ok(());
     }
+    let _gone = fs::remove_file(rt, new).is_ok();
+    Err(Mistake::NotWritten)
 }
 
-fn save_as(rt: &impl Files, file: &str, mode: Option<Permissions>, table: &[u8]) -> Line {
-    let mut name = [0u8; 4096];
-    let end = paste(file.as_bytes(), &mut name, 0);
-    let end = paste(b".new", &mut name, end);
-    match str::from_utf8(first(&name, end)) {
-        Ok(new) => replace(rt, file, mode, new, table),
-        Err(_) => error(b"FILE cannot be opened"),
-    }
+// The name of a file that stands beside this one until it takes its place.
+fn new_name(file: &str) -> Option<ArrayString<4096>> {
+    let mut new = ArrayString::new();
+    new.try_push_str(file).ok()?;
+    new.try_push_str(".new").ok()?;
+    Some(new)
 }
 
-// In the place of what stands there.
-fn save_over(rt: &impl Files, file: &str, what: &Metadata, table: &[u8]) -> Line {
-    if !is_regular(what) {
-        return error(b"FILE is no regular file");
-    }
-    if !may_be_written(rt, file) {
-        return error(b"FILE cannot be opened");
-    }
-    save_as(rt, file, Some(what.permissions()), table)
-}
-
-fn save_to(rt: &impl Files, file: &str, table: &[u8]) -> Line {
+// The mode of what stands there; none where nothing does.
+fn mode_of(rt: &impl Files, file: &str) -> Result<Option<Permissions>, Mistake> {
     match fs::symlink_metadata(rt, file) {
-        Ok(what) => save_over(rt, file, &what, table),
-        Err(_) => save_as(rt, file, None, table),
+        Ok(what) if !is_regular(&what) => Err(Mistake::NotRegular),
+        Ok(_) if !may_be_written(rt, file) => Err(Mistake::NotOpened),
+        Ok(what) => Ok(Some(what.permissions())),
+        Err(_) => Ok(None),
     }
 }
 
-pub(crate) fn save(rt: &impl Files, line: &[u8], table: &[u8]) -> Line {
-    if table.len() == 0 {
-        return error(b"there is no table to save");
+pub(crate) fn save(rt: &impl Files, name: &[u8], table: &[u8]) -> Said {
+    if table.is_empty() {
+        return Err(Mistake::NoTable.into());
     }
-    match str::from_utf8(word(line, 1)) {
-        Ok(file) => save_to(rt, file, table),
-        Err(_) => error(b"FILE cannot be opened"),
-    }
+    let file = name_in(name)?;
+    let mode = mode_of(rt, file)?;
+    let new = new_name(file).ok_or(Mistake::NotOpened)?;
+    replace(rt, file, mode, new.as_str(), table)?;
+    Ok(Answer::length(table))
 }

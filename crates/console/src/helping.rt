@@ -1,28 +1,15 @@
 // How the lines of commands are written.
-use crate::command;
-use crate::commands::named;
-use crate::says::{done_with, error};
-use crate::spaced::{count, part, word};
-use crate::texts::{Line, NEWLINE, text, write};
+use crate::answer::{Answer, Said};
+use crate::command::{ALL, Command};
+use crate::texts::print_line;
 
-// With the line of a command.
-fn with_line(said: Line, command: usize) -> Line {
-    said.with(part(&command::LINES, command, NEWLINE))
-}
-
-pub(crate) fn miscounted(line: &[u8]) -> Line {
-    with_line(error(b"wrong number of words: "), named(word(line, 0)))
-}
-
-// The commands that have a line stand before what is none.
-pub(crate) fn help(line: &[u8]) -> Line {
-    if count(line) == 1 {
-        write(&command::LINES);
-        return done_with(command::UNKNOWN as u64);
+// Of a command, or of all.
+pub(crate) fn help(name: &[u8]) -> Said {
+    if !name.is_empty() {
+        return Ok(Answer::Usage(Command::try_from(name)?));
     }
-    let command = named(word(line, 1));
-    if command == command::UNKNOWN {
-        return error(b"unknown command");
+    for command in ALL {
+        print_line(&command.usage());
     }
-    with_line(text(b""), command)
+    Ok(Answer::Number(ALL.len() as u64))
 }

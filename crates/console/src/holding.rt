@@ -1,59 +1,55 @@
 // The tokens of a table in words.
-ghost use Rattle.std.specs.Prelude.{◌≤◌};
-
-use crate::names::{TYPES, with_names};
-use crate::says::{done_with, refused};
-use crate::texts::{Line, text};
-use claims::Claim;
-use table::refusal::NOT_WELL_FORMED;
+use crate::answer::{Answer, Said};
+use crate::names::{Names, TYPES};
+use crate::says::not_well_formed;
+use crate::texts::print_line;
+use claims::{Claim, FileId};
+use std::fmt;
 use table::{Slot, WIDTH, read_slot, well_formed};
 
-pub(crate) fn with_token(line: Line, number: u64, host: u16, types: u16) -> Line {
-    let head = line
-        .counted(b"number ", number)
-        .counted(b", host ", host as u64);
-    with_names(head, types as u64, &TYPES)
+// A token's number, its host and its types.
+#[derive(Clone, Copy)]
+pub struct Token {
+    pub number: u64,
+    pub host: u16,
+    pub types: u16,
 }
 
-fn with_range(line: Line, claim: Claim) -> Line {
-    let file = claim.file;
-    line.with(b", file ")
-        .hex(file.hi, 16)
-        .hex(file.lo as u64, 8)
-        .counted(b", bytes ", claim.first)
-        .counted(b" to ", claim.last)
-}
-
-fn token(number: u64, claim: Claim) {
-    let head = with_token(text(b""), number, claim.host, claim.types);
-    with_range(head, claim).print_line();
-}
-
-// Answers how many tokens a slot holds.
-fn slot(slot: Slot) -> u64
-    ensures { result ≤ 1 }
-{
-    match slot {
-        Slot::Free => 0,
-        Slot::Held { number, claim } => {
-            token(number, claim);
-            1
-        }
+impl fmt::Display for Token {
+    fn fmt<W: fmt::Write>(&self, f: &mut fmt::Formatter<W>) -> fmt::Result {
+        let number = self.number;
+        let host = self.host;
+        let types = Names {
+            set: self.types,
+            names: &TYPES,
+            before: ", ",
+        };
+        write!(f, "number {number}, host {host}{types}")
     }
 }
 
-pub(crate) fn held(table: &[u8]) -> Line {
+fn print_token(number: u64, claim: Claim) {
+    let token = Token {
+        number,
+        host: claim.host,
+        types: claim.types,
+    };
+    let FileId { hi, lo } = claim.file;
+    let first = claim.first;
+    let last = claim.last;
+    print_line(&format_args!("{token}, file {hi:016x}{lo:08x}, bytes {first} to {last}"));
+}
+
+pub(crate) fn held(table: &[u8]) -> Said {
     if !well_formed(table) {
-        return refused(NOT_WELL_FORMED);
+        return Err(not_well_formed());
     }
-    let mut at = WIDTH;
-    let mut n = 0u64;
-    while at < table.len() {
-        if table.len() - at < WIDTH {
-            break;
+    let mut tokens = 0u64;
+    for slot in table.chunks_exact(WIDTH).skip(1) {
+        if let Slot::Held { number, claim } = read_slot(slot) {
+            print_token(number, claim);
+            tokens = tokens.saturating_add(1);
         }
-        n += slot(read_slot(&table[at..at + WIDTH]));
-        at += WIDTH;
     }
-    done_with(n)
+    Ok(Answer::Number(tokens))
 }

@@ -1,64 +1,59 @@
 // The records of an access list in words.
-use crate::names::{KINDS, with_letters};
-use crate::says::{done_with, refused_with};
-use crate::spaced::word;
-use crate::texts::{Line, text};
+use crate::answer::{Answer, Said};
+use crate::names::{Letters, kind_name};
+use crate::says::refused_at;
+use crate::texts::print_line;
 use list::kind::{DEFAULT_REALM, FOREIGN_GROUP, FOREIGN_USER, USER};
-use list::{Record, Step, Walk};
+use list::{LONGEST, Record, Step, Walk};
+use std::fmt;
 use words::Realm;
 
-fn with_realm(line: Line, kind: u8, realm: Realm) -> Line {
-    if (kind != DEFAULT_REALM) & (kind < FOREIGN_USER) {
-        return line;
+// A record and its place in the list.
+#[derive(Clone, Copy)]
+pub struct Placed {
+    pub place: usize,
+    pub record: Record,
+}
+
+impl fmt::Display for Placed {
+    fn fmt<W: fmt::Write>(&self, f: &mut fmt::Formatter<W>) -> fmt::Result {
+        let place = self.place;
+        let Record {
+            kind,
+            realm: Realm { hi, lo },
+            id,
+            rights,
+            size: _,
+        } = self.record;
+        let name = kind_name(kind);
+        write!(f, "place {place}, {name}")?;
+        if kind == DEFAULT_REALM || FOREIGN_USER <= kind {
+            write!(f, ", realm {hi:016x}{lo:016x}")?;
+        }
+        if USER <= kind && kind <= FOREIGN_GROUP {
+            write!(f, ", id {id}")?;
+        }
+        if kind != DEFAULT_REALM {
+            let letters = Letters(rights);
+            write!(f, ", rights {letters}")?;
+        }
+        Ok(())
     }
-    line.with(b", realm ").hex(realm.hi, 16).hex(realm.lo, 16)
-}
-
-fn with_id(line: Line, kind: u8, id: u32) -> Line {
-    if (kind < USER) | (FOREIGN_GROUP < kind) {
-        return line;
-    }
-    line.counted(b", id ", id as u64)
-}
-
-fn with_rights(line: Line, kind: u8, rights: u8) -> Line {
-    if kind == DEFAULT_REALM {
-        return line;
-    }
-    with_letters(line.with(b", rights "), rights as u64)
-}
-
-pub(crate) fn with_record(line: Line, at: usize, r: Record) -> Line {
-    let kind = r.kind;
-    let realm = r.realm;
-    let placed = line.counted(b"place ", at as u64).with(b", ");
-    let named = with_realm(placed.with(word(&KINDS, kind as usize)), kind, realm);
-    with_rights(with_id(named, kind, r.id), kind, r.rights)
-}
-
-fn print_record(at: usize, r: Record) {
-    with_record(text(b""), at, r).print_line();
 }
 
 // Each record that the walk gives; a list has fewer records than bytes.
-pub(crate) fn records(list: &[u8]) -> Line {
+pub(crate) fn records(list: &[u8]) -> Said {
     let mut walk = Walk::start(list);
-    let mut n = 0u64;
-    while n < 4096 {
-        let at = walk.at;
+    for n in 0..LONGEST {
+        let place = walk.at;
         match walk.step(list) {
-            Step::Next(r, next) => {
-                print_record(at, r);
+            Step::Next(record, next) => {
+                print_line(&Placed { place, record });
                 walk = next;
             }
-            Step::Refused { number, place } => {
-                return refused_with(number, place as u64);
-            }
-            Step::End => {
-                return done_with(n);
-            }
+            Step::Refused { number, place } => return Err(refused_at(number, place)),
+            Step::End => return Ok(Answer::Number(n as u64)),
         }
-        n += 1;
     }
-    done_with(n)
+    Ok(Answer::Number(LONGEST as u64))
 }

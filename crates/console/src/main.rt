@@ -2,37 +2,33 @@
 #![tactic(auto)]
 
 mod amounts;
+mod answer;
 mod calls;
 mod command;
-mod commands;
+mod console;
 mod expecting;
 mod files;
 mod helping;
 mod hexes;
 mod holding;
-mod kind;
-mod lines;
 mod listing;
 mod looking;
 mod meaning;
-mod memory;
+mod mistake;
 mod names;
+mod output;
 mod reading;
-mod remembering;
 mod says;
-mod sentences;
 mod setting;
 mod showing;
 mod spaced;
 mod texts;
 
-use says::error;
+use answer::Failure;
+use console::Console;
+use mistake::Mistake;
 use std::env::FillError;
 use std::rt::Env;
-
-fn refuse_arguments() {
-    error(b"the console takes no arguments: it reads commands from standard input").print_line();
-}
 
 // Whether the program was given an argument, however long.
 fn has_arguments(rt: &impl Env) -> bool {
@@ -45,12 +41,8 @@ fn has_arguments(rt: &impl Env) -> bool {
 
 fn main(rt: HostRuntime) {
     if has_arguments(&rt) {
-        refuse_arguments();
+        texts::print_line(&Failure::Mistake(Mistake::Arguments));
         return;
     }
-    let mut line = [0u8; 16385];
-    let mut table = [0u8; 65536];
-    let mut list = [0u8; 16384];
-    let mut out = [0u8; 16384];
-    lines::serve(&rt, &mut line, &mut table, &mut list, &mut out);
+    Console::new().serve(&rt);
 }

@@ -1,156 +1,120 @@
 // The commands that set what the calls go by: the table's bytes, the list, the room for output, the caller, the file, its guard;
 // and whether answers are put in words.
-use crate::amounts::{Given, MOST_32, amount, mode};
-use crate::hexes::{are_bytes, is_dash, write_bytes};
-use crate::kind;
-use crate::memory::least;
-use crate::names::place_among;
-use crate::says::{done, done_with, error};
+use crate::amounts::{amount, at_most, mode};
+use crate::answer::{Answer, Said};
+use crate::console::Console;
+use crate::hexes;
+use crate::mistake::Mistake;
+use crate::output::SIZE;
 use crate::spaced::{count, word};
-use crate::texts::{Line, answer, first, paste};
-use check::same;
+use arrayvec::ArrayVec;
+use evaluate::{Caller, File};
+use rights::Guard;
 use table::WIDTH;
 
 // A table of so many slots fits the buffer.
-const MOST_SLOTS: u64 = 1597;
+const MOST_SLOTS: usize = 1597;
 
-const MOST_OUT: u64 = 16384;
+// The place of the first further group among the words of a line.
+const FURTHER: usize = 4;
 
-fn clear(bytes: &mut [u8], n: usize) {
-    let mut i = 0;
-    while i < bytes.len() {
-        if n <= i {
-            return;
+fn caller_in(line: &[u8]) -> Option<Caller> {
+    Some(Caller {
+        realm: hexes::realm(word(line, 1))?,
+        user: amount(word(line, 2))?,
+        group: amount(word(line, 3))?,
+    })
+}
+
+fn groups_in(line: &[u8]) -> Option<ArrayVec<u32, 40>> {
+    let mut groups = ArrayVec::new();
+    for k in FURTHER..count(line) {
+        let _ = groups.try_push(amount(word(line, k))?);
+    }
+    Some(groups)
+}
+
+fn file_in(line: &[u8]) -> Option<File> {
+    Some(File {
+        owner: amount(word(line, 1))?,
+        group: amount(word(line, 2))?,
+        dir: match word(line, 3) {
+            b"file" => false,
+            b"dir" => true,
+            _ => return None,
+        },
+    })
+}
+
+fn mode_guard_in(line: &[u8]) -> Option<Guard> {
+    Some(Guard::Mode {
+        realm: hexes::realm(word(line, 2))?,
+        mode: mode(word(line, 3))?,
+    })
+}
+
+impl Console {
+    pub(crate) fn set_table(&mut self, line: &[u8]) -> Said {
+        if matches!(word(line, 1), b"hex") {
+            self.table = hexes::bytes_in(word(line, 2)).ok_or(Mistake::Bytes)?;
+            return Ok(Answer::length(&self.table));
         }
-        bytes[i] = 0;
-        i += 1;
-    }
-}
-
-fn is_hex(word: &[u8]) -> bool {
-    if word.len() == 0 {
-        return false;
-    }
-    is_dash(word) | are_bytes(word, word.len() / 2)
-}
-
-// The bytes that a word says become a buffer's first. '-' says none.
-fn take(word: &[u8], buffer: &mut [u8]) -> Line {
-    if !is_hex(word) {
-        return error(b"BYTES are hex digits, two for each, or -");
-    }
-    let n = least(word.len() / 2, buffer.len());
-    write_bytes(word, buffer);
-    done_with(n as u64)
-}
-
-fn zeros(line: &[u8], table: &mut [u8]) -> Line {
-    let slots = amount(word(line, 1), MOST_SLOTS);
-    if !(slots.fits & (count(line) == 2)) {
-        return error(b"table N, up to 1597 slots, or table hex BYTES");
-    }
-    let n = slots.value as usize * WIDTH + WIDTH;
-    clear(table, n);
-    done_with(n as u64)
-}
-
-pub(crate) fn table(line: &[u8], table: &mut [u8]) -> Line {
-    if same(word(line, 1), b"hex") {
-        return take(word(line, 2), table);
-    }
-    zeros(line, table)
-}
-
-pub(crate) fn list(line: &[u8], list: &mut [u8]) -> Line {
-    take(word(line, 1), list)
-}
-
-// How much is kept: what LENGTH says, or else what the last edit wrote.
-fn kept(given: &[u8], edited: usize) -> Given {
-    if given.len() == 0 {
-        return Given {
-            fits: edited != 0,
-            value: edited as u64,
+        let (Some(slots), 2) = (at_most(word(line, 1), MOST_SLOTS), count(line)) else {
+            return Err(Mistake::Slots.into());
         };
+        self.table = ArrayVec::from([0; 65536]);
+        self.table.truncate((1 + slots) * WIDTH);
+        Ok(Answer::length(&self.table))
     }
-    amount(given, MOST_OUT)
-}
 
-fn not_kept(given: &[u8]) -> Line {
-    if given.len() == 0 {
-        return error(b"no edit has written a list");
+    pub(crate) fn set_list(&mut self, line: &[u8]) -> Said {
+        self.list = hexes::bytes_in(word(line, 1)).ok_or(Mistake::Bytes)?;
+        Ok(Answer::length(&self.list))
     }
-    error(b"LENGTH is a number up to 16384")
-}
 
-// The first bytes of the output buffer become the list.
-pub(crate) fn keep(line: &[u8], edited: usize, list: &mut [u8], out: &[u8]) -> Line {
-    let given = word(line, 1);
-    let length = kept(given, edited);
-    if !length.fits {
-        return not_kept(given);
+    // The first bytes of the output buffer become the list: as many as LENGTH says, or else what the last edit wrote.
+    pub(crate) fn keep(&mut self, line: &[u8]) -> Said {
+        let kept = match word(line, 1) {
+            [] => self.out.edited.ok_or(Mistake::NoEdit)?,
+            given => at_most(given, SIZE).ok_or(Mistake::Kept)?,
+        };
+        self.list = ArrayVec::from(self.out.bytes);
+        self.list.truncate(kept);
+        Ok(Answer::length(&self.list))
     }
-    let bytes = first(out, length.value as usize);
-    paste(bytes, list, 0);
-    done_with(bytes.len() as u64)
-}
 
-pub(crate) fn room(line: &[u8]) -> Line {
-    let room = amount(word(line, 1), MOST_OUT);
-    if !room.fits {
-        return error(b"BYTES is a number up to 16384");
+    pub(crate) fn set_room(&mut self, line: &[u8]) -> Said {
+        self.out.room = at_most(word(line, 1), SIZE).ok_or(Mistake::Room)?;
+        Ok(Answer::Done)
     }
-    answer(kind::WORDS, room.value as usize, b"done")
-}
 
-// Every word from a place to another is an id.
-fn are_ids(line: &[u8], from: usize, to: usize) -> bool {
-    let mut k = from;
-    while k < to {
-        if !amount(word(line, k), MOST_32).fits {
-            return false;
-        }
-        k += 1;
+    pub(crate) fn set_caller(&mut self, line: &[u8]) -> Said {
+        let caller = caller_in(line).ok_or(Mistake::Caller)?;
+        self.groups = groups_in(line).ok_or(Mistake::Caller)?;
+        self.caller = caller;
+        Ok(Answer::Done)
     }
-    true
-}
 
-pub(crate) fn caller(line: &[u8]) -> Line {
-    if !(are_bytes(word(line, 1), 16) & are_ids(line, 2, count(line))) {
-        return error(b"REALM is 32 hex digits, USER and each GROUP a number of 32 bits");
+    pub(crate) fn set_file(&mut self, line: &[u8]) -> Said {
+        self.file = file_in(line).ok_or(Mistake::File)?;
+        Ok(Answer::Done)
     }
-    done()
-}
 
-pub(crate) fn file(line: &[u8]) -> Line {
-    let what = place_among(word(line, 3), b"file dir");
-    if !(are_ids(line, 1, 3) & (what < 2)) {
-        return error(b"OWNER and GROUP are numbers of 32 bits, then file or dir");
+    pub(crate) fn set_guard(&mut self, line: &[u8]) -> Said {
+        self.guard = match (word(line, 1), count(line)) {
+            (b"mode", _) => mode_guard_in(line).ok_or(Mistake::Mode)?,
+            (b"list", 2) => Guard::List,
+            _ => return Err(Mistake::Guard.into()),
+        };
+        Ok(Answer::Done)
     }
-    done()
-}
 
-fn by_mode(line: &[u8]) -> Line {
-    if !(are_bytes(word(line, 2), 16) & mode(word(line, 3)).fits) {
-        return error(b"REALM is 32 hex digits, MODE a number of 32 bits");
+    pub(crate) fn set_words(&mut self, line: &[u8]) -> Said {
+        self.words = match word(line, 1) {
+            b"on" => true,
+            b"off" => false,
+            _ => return Err(Mistake::Words.into()),
+        };
+        Ok(Answer::Done)
     }
-    done()
-}
-
-pub(crate) fn guard(line: &[u8]) -> Line {
-    let what = word(line, 1);
-    if same(what, b"mode") {
-        return by_mode(line);
-    }
-    if !(same(what, b"list") & (count(line) == 2)) {
-        return error(b"guard list, or guard mode REALM MODE");
-    }
-    done()
-}
-
-pub(crate) fn words(line: &[u8]) -> Line {
-    if 2 <= place_among(word(line, 1), b"on off") {
-        return error(b"words on, or words off");
-    }
-    done()
 }
