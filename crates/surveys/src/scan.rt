@@ -61,7 +61,9 @@ fn survey_slots(table: &[u8], claim: Claim, limit: u16, next: u64) -> Result<See
         }
         seen = pass(seen, i, read_slot(slot), claim);
     }
-    Ok(seen)
+    // Made anew: copied whole into the result, the count is kept in parts through the loop, a tenth slower.
+    let Seen { conflicts, free } = seen;
+    Ok(Seen { conflicts, free })
 }
 
 pub fn survey(table: &[u8], claim: Claim) -> Result<Seen, Refusal>
