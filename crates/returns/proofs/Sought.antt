@@ -7,7 +7,7 @@ use Prim.Native.Nat.{ℕ, ◌+◌, ◌-◌, ◌≤◌, ◌<◌}
 use native.Mathlib.Omega.{arith}
 use lib.ListN.{length, take, drop, length-append, length-map}
 use Rattle.words.proofs.Tests.{map_append}
-use Rattle.table.specs.Layout.{width, slot_of, table_of}
+use Rattle.table.specs.Layout.{width, slot_of, slots_in, table_of}
 use Rattle.table.specs.declared.slot.Slot.{Slot}
 use Rattle.table.proofs.Slots.{Passing, cuts, none_passed, at_slot, one_passed, all_passed}
 use Rattle.table.proofs.Places.{position_more, position_here}
