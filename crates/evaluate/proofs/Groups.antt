@@ -1,25 +1,40 @@
 -- Looking for a group among the caller's. Assumes nothing.
-use mathlib.Core.Path.{◌≡◌, refl}
-use mathlib.Core.List.{List, [], ◌∷◌}
-use mathlib.Core.Bool.{Bool, true, false, cond, ◌||◌}
-use Prim.Native.Nat.{ℕ}
-use borrow.Author.Tests.{ne_eqb}
+use mathlib.Core.Path.{◌≡◌, sym}
+use mathlib.Core.List.{List}
+use mathlib.Core.Bool.{Bool, true, false}
+use Prim.Native.Nat.{ℕ, ◌+◌, ◌≤◌, ◌<◌}
+use native.Mathlib.Numerals.{add-one}
+use borrow.Author.Tests.{eq-eqb, ne_eqb}
 use lib.Dec.{eqb}
-use Rattle.std.specs.List.{list_any}
+use lib.ListN.{length, drop, get_or, drop_of_length-le}
+use lib.Seq.{drop-cons}
 use Rattle.words.specs.Test.{any_of}
 use Rattle.evaluate.specs.Asking.{in_group, TellsGroup}
 use Rattle.evaluate.specs.declared.asking.Caller.{Caller}
 
--- the library's word for it
-any_as : {A : Type 0} (test : A → Bool) (xs : List A) → list_any test xs ≡ any_of test xs
-unfolding any_of
-any_as test [] = refl
-any_as test (x ∷ xs) = go (test x) (any_as test xs)
-  where
-    go : (b : Bool) → list_any test xs ≡ any_of test xs → (b || list_any test xs) ≡ cond b true (any_of test xs)
-    go true later = refl
-    go false later = later
+-- one of some groups
+abbrev pub among : ℕ → List ℕ → Bool
+among id groups = any_of (λ (g : ℕ). eqb g id) groups
 
-pub further : (caller : Caller) (groups : List ℕ) (id : ℕ) → (caller.group ≡ id → ⊥) → TellsGroup caller groups id (list_any (λ (g : ℕ). eqb g id) groups)
-unfolding in_group
-further caller groups id n = record { answer = simp (ne_eqb caller.group id n) (any_as _ groups) }
+-- the search goes on in the rest of the list
+module _ (id : ℕ) (groups : List ℕ) (i : ℕ) where
+  pub none_left : length groups ≤ i → among id (drop i groups) ≡ false
+  unfolding any_of
+  none_left h = rw drop_of_length-le
+
+  pub here : i < length groups → get_or groups i 0 ≡ id → among id (drop i groups) ≡ true
+  unfolding any_of
+  here h e = rw (drop-cons groups i 0, eq-eqb (get_or groups i 0) id e)
+
+  pub not_here : i < length groups → (get_or groups i 0 ≡ id → ⊥) → among id (drop i groups) ≡ among id (drop (i + 1) groups)
+  unfolding any_of
+  not_here h n = rw (drop-cons groups i 0, ne_eqb (get_or groups i 0) id n, add-one)
+
+module _ (caller : Caller) (groups : List ℕ) (id : ℕ) where
+  pub primary : caller.group ≡ id → TellsGroup caller groups id true
+  unfolding in_group
+  primary e = record { answer = simp (eq-eqb caller.group id e) }
+
+  pub further : (caller.group ≡ id → ⊥) → {b : Bool} → among id groups ≡ b → TellsGroup caller groups id b
+  unfolding in_group
+  further n q = record { answer = simp (ne_eqb caller.group id n) (sym q) }

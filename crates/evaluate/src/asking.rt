@@ -32,5 +32,13 @@ pub(crate) fn is_of_default_realm(caller: Caller, default: Realm) -> bool
 pub fn is_in_group(caller: Caller, groups: &[u32], id: u32) -> bool
     ensures { TellsGroup caller groups.now id result }
 {
-    caller.group == id || groups.contains(&id)
+    if caller.group == id {
+        return true;
+    }
+    for group in groups {
+        if *group == id {
+            return true;
+        }
+    }
+    false
 }
