@@ -34,7 +34,7 @@ const KINDS: [&str; 12] = [
     "foreign_other",
 ];
 
-// These letters are a name; one word that has '-' or '_' between the name's.
+// These letters are a name, typed as one word: '-' or '_' stands where the name has ' ' or '_'.
 fn is_name(letters: &[u8], name: &str) -> bool {
     letters.len() == name.len()
         && letters.iter().zip(name.as_bytes()).all(|(typed, letter)| match letter {
