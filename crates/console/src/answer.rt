@@ -1,7 +1,10 @@
 // What a command is answered.
 use crate::command::Command;
 use crate::mistake::Mistake;
+use evaluate::Found;
 use std::fmt;
+use tokens::Granted;
+use words::Refusal;
 
 #[derive(Clone, Copy)]
 pub enum Answer {
@@ -13,17 +16,9 @@ pub enum Answer {
     // The rights that types need.
     Needed(u8),
     // A token of the widest range.
-    Granted {
-        number: u64,
-        first: u64,
-        last: u64,
-    },
+    Granted(Granted),
     // The rights, and the deciding record by its place and length.
-    Rights {
-        rights: u8,
-        place: usize,
-        size: usize,
-    },
+    Rights(Found),
     Audited(bool),
     // How a command's line is written.
     Usage(Command),
@@ -45,8 +40,7 @@ pub enum Answer {
 #[derive(Clone, Copy)]
 pub enum Failure {
     Mistake(Mistake),
-    // With the place for 10 to 19, or for 35 the true count.
-    Refused { number: u8, value: Option<u64> },
+    Refused(Refusal),
 }
 
 pub type Said = Result<Answer, Failure>;
@@ -54,6 +48,12 @@ pub type Said = Result<Answer, Failure>;
 impl From<Mistake> for Failure {
     fn from(mistake: Mistake) -> Failure {
         Failure::Mistake(mistake)
+    }
+}
+
+impl From<Refusal> for Failure {
+    fn from(refusal: Refusal) -> Failure {
+        Failure::Refused(refusal)
     }
 }
 
@@ -71,6 +71,15 @@ fn done_with<W: fmt::Write>(f: &mut fmt::Formatter<W>, n: u64, a: u64, b: u64) -
     write!(f, "done {n} {a} {b}")
 }
 
+// With the place for 10 to 19, and for 35 the true count.
+fn refused<W: fmt::Write>(f: &mut fmt::Formatter<W>, refusal: Refusal) -> fmt::Result {
+    let number = refusal.number();
+    match refusal.value() {
+        Some(value) => write!(f, "refused {number} {value}"),
+        None => write!(f, "refused {number}"),
+    }
+}
+
 // What the console tells itself is nothing here.
 impl fmt::Display for Answer {
     fn fmt<W: fmt::Write>(&self, f: &mut fmt::Formatter<W>) -> fmt::Result {
@@ -78,16 +87,16 @@ impl fmt::Display for Answer {
             Answer::Done => f.write_str("done"),
             Answer::Number(n) => done(f, *n),
             Answer::Needed(rights) => done(f, u64::from(*rights)),
-            Answer::Granted {
+            Answer::Granted(Granted {
                 number,
                 first,
                 last,
-            } => done_with(f, *number, *first, *last),
-            Answer::Rights {
+            }) => done_with(f, *number, *first, *last),
+            Answer::Rights(Found {
                 rights,
-                place,
+                start,
                 size,
-            } => done_with(f, u64::from(*rights), *place as u64, *size as u64),
+            }) => done_with(f, u64::from(*rights), *start as u64, *size as u64),
             Answer::Audited(true) => f.write_str("yes"),
             Answer::Audited(false) => f.write_str("no"),
             Answer::Usage(command) => f.write_str(command.usage()),
@@ -101,14 +110,7 @@ impl fmt::Display for Failure {
     fn fmt<W: fmt::Write>(&self, f: &mut fmt::Formatter<W>) -> fmt::Result {
         match self {
             Failure::Mistake(mistake) => write!(f, "error {mistake}"),
-            Failure::Refused {
-                number,
-                value: Some(value),
-            } => write!(f, "refused {number} {value}"),
-            Failure::Refused {
-                number,
-                value: None,
-            } => write!(f, "refused {number}"),
+            Failure::Refused(refusal) => refused(f, *refusal),
         }
     }
 }

@@ -5,7 +5,6 @@ use crate::console::Console;
 use crate::hexes::{file_id, is_dash, realm};
 use crate::mistake::Mistake;
 use crate::names::{kind_in, rights_in, types_in};
-use crate::says::{edited, found, reply, verdict};
 use crate::spaced::word;
 use access::needed_rights;
 use claims::Claim;
@@ -37,7 +36,7 @@ fn return_in(line: &[u8]) -> Option<(u16, u64, u16)> {
 // A realm where the kind has one; elsewhere it may be left out.
 fn realm_of(kind: u8, word: &[u8]) -> Option<Realm> {
     if is_dash(word) && (kind < FOREIGN_USER || FOREIGN_OTHER < kind) {
-        return Some(Realm { hi: 0, lo: 0 });
+        return Some(Realm::ZERO);
     }
     realm(word)
 }
@@ -54,12 +53,13 @@ fn entry_in(line: &[u8], rights: Option<u8>) -> Option<Entry> {
 
 impl Console {
     pub(crate) fn fill(&mut self) -> Said {
-        reply(desk::fill(&mut self.table))
+        desk::fill(&mut self.table)?;
+        Ok(Answer::Done)
     }
 
     pub(crate) fn drop_host(&mut self, line: &[u8]) -> Said {
         let host = amount(word(line, 1)).ok_or(Mistake::Host)?;
-        reply(desk::drop_host(&mut self.table, host))
+        Ok(Answer::Number(desk::drop_host(&mut self.table, host)?))
     }
 
     pub(crate) fn audit(&self) -> Said {
@@ -69,69 +69,45 @@ impl Console {
     // The rights that types need on the file.
     pub(crate) fn needs(&self, line: &[u8]) -> Said {
         let types = types_in(word(line, 1)).ok_or(Mistake::Types)?;
-        Ok(Answer::Needed(needed_rights(types, self.file.dir)))
+        Ok(Answer::Needed(needed_rights(types, self.asked.file.dir)))
     }
 
     pub(crate) fn ask(&mut self, line: &[u8]) -> Said {
         let claim = claim_in(line).ok_or(Mistake::Claim)?;
-        let said = reply(desk::ask(
-            &self.table,
-            claim,
-            &self.list,
-            &self.groups,
-            self.caller,
-            self.file,
-            self.guard,
-            self.out.lent(),
-        ));
-        self.out.after_ask(said)
+        let tokens = desk::ask(&self.table, claim, self.asked.access(), self.out.lent())?;
+        Ok(self.out.after_ask(tokens))
     }
 
     pub(crate) fn grant(&mut self, line: &[u8]) -> Said {
         let claim = claim_in(line).ok_or(Mistake::Claim)?;
-        reply(desk::grant(
-            &mut self.table,
-            claim,
-            &self.list,
-            &self.groups,
-            self.caller,
-            self.file,
-            self.guard,
-        ))
+        Ok(Answer::Number(desk::grant(&mut self.table, claim, self.asked.access())?))
     }
 
-    // Written out: a closure's type for the call of `grant` or this one is longer than what they share.
     pub(crate) fn grant_widest(&mut self, line: &[u8]) -> Said {
         let claim = claim_in(line).ok_or(Mistake::Claim)?;
-        reply(desk::grant_widest(
-            &mut self.table,
-            claim,
-            &self.list,
-            &self.groups,
-            self.caller,
-            self.file,
-            self.guard,
-        ))
+        Ok(Answer::Granted(desk::grant_widest(&mut self.table, claim, self.asked.access())?))
     }
 
     pub(crate) fn give_back(&mut self, line: &[u8]) -> Said {
         let (host, number, types) = return_in(line).ok_or(Mistake::Return)?;
-        reply(desk::give_back(&mut self.table, host, number, types))
+        desk::give_back(&mut self.table, host, number, types)?;
+        Ok(Answer::Done)
     }
 
     pub(crate) fn check(&self) -> Said {
-        verdict(check_list(&self.list))
+        check_list(&self.asked.list)?;
+        Ok(Answer::Done)
     }
 
     pub(crate) fn rights(&self) -> Said {
-        found(decide(&self.list, &self.groups, self.caller, self.file, self.guard))
+        Ok(Answer::Rights(decide(self.asked.access())?))
     }
 
     pub(crate) fn put(&mut self, line: &[u8]) -> Said {
         let rights = rights_in(word(line, 4));
         let entry = entry_in(line, rights).ok_or(Mistake::Entry)?;
-        let edit = put_entry(&self.list, entry, self.out.lent());
-        self.out.after_edit(edited(edit))
+        let length = put_entry(&self.asked.list, entry, self.out.lent())?;
+        Ok(self.out.after_edit(length))
     }
 
     // The rights of a drop may be given, and are ignored.
@@ -141,7 +117,7 @@ impl Console {
             given => rights_in(given),
         };
         let entry = entry_in(line, rights).ok_or(Mistake::Entry)?;
-        let edit = drop_entry(&self.list, entry, self.out.lent());
-        self.out.after_edit(edited(edit))
+        let length = drop_entry(&self.asked.list, entry, self.out.lent())?;
+        Ok(self.out.after_edit(length))
     }
 }

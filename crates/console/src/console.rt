@@ -1,5 +1,6 @@
 // The console: its buffers, what it remembers from line to line, and the answer to each line.
 use crate::answer::{Answer, Said};
+use crate::asked::Asked;
 use crate::command::Command;
 use crate::expecting::Score;
 use crate::helping::help;
@@ -14,23 +15,15 @@ use crate::spaced::{count, word};
 use crate::texts::{Text, print_line, text};
 use crate::{files, hexes};
 use arrayvec::ArrayVec;
-use evaluate::{Caller, File};
-use rights::Guard;
 use std::rt::Files;
-use words::Realm;
 
 pub type Table = ArrayVec<u8, 65536>;
 
 #[derive(Drop)]
 pub struct Console {
     pub table: Table,
-    pub list: ArrayVec<u8, 16384>,
+    pub asked: Asked,
     pub out: Output,
-    pub caller: Caller,
-    // The caller's further groups.
-    pub groups: ArrayVec<u32, 40>,
-    pub file: File,
-    pub guard: Guard,
     // The last answer.
     pub last: Said,
     pub score: Score,
@@ -59,20 +52,8 @@ impl Console {
     pub(crate) fn new() -> Console {
         Console {
             table: ArrayVec::new(),
-            list: ArrayVec::new(),
+            asked: Asked::new(),
             out: Output::new(),
-            caller: Caller {
-                realm: Realm { hi: 0, lo: 0 },
-                user: 0,
-                group: 0,
-            },
-            groups: ArrayVec::new(),
-            file: File {
-                owner: 0,
-                group: 0,
-                dir: false,
-            },
-            guard: Guard::List,
             last: Ok(Answer::Nothing),
             score: Score { met: 0, missed: 0 },
             words: false,
@@ -113,7 +94,7 @@ impl Console {
         let said = self.answer(rt, command, line);
         self.tell(&said);
         if self.words {
-            mean(command, &said, &self.list, &self.out.bytes);
+            mean(command, &said, &self.asked.list, &self.out.bytes);
         }
         self.last = said;
     }
@@ -131,7 +112,7 @@ impl Console {
             Command::Room => self.set_room(line),
             Command::Show => show(line),
             Command::Held => held(&self.table),
-            Command::Records => records(&self.list),
+            Command::Records => records(&self.asked.list),
             Command::Total => Ok(self.score.total()),
             Command::Fill => self.fill(),
             Command::Drop => self.drop_host(line),
@@ -155,7 +136,7 @@ impl Console {
     pub(crate) fn shown(&self, said: &Said) -> Option<&[u8]> {
         match said {
             Ok(Answer::Table) => Some(&self.table),
-            Ok(Answer::List) => Some(&self.list),
+            Ok(Answer::List) => Some(&self.asked.list),
             Ok(Answer::Out(n)) => self.out.bytes.get(..*n),
             _ => None,
         }
@@ -164,9 +145,9 @@ impl Console {
     // The line of an answer that shows no bytes.
     pub(crate) fn line_of(&self, said: &Said) -> Text {
         match said {
-            Ok(Answer::Caller) => caller_line(self.caller, &self.groups),
-            Ok(Answer::File) => file_line(self.file),
-            Ok(Answer::Guard) => guard_line(self.guard),
+            Ok(Answer::Caller) => caller_line(self.asked.caller, &self.asked.groups),
+            Ok(Answer::File) => file_line(self.asked.file),
+            Ok(Answer::Guard) => guard_line(self.asked.guard),
             Ok(answer) => text(answer),
             Err(failure) => text(failure),
         }

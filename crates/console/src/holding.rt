@@ -1,11 +1,11 @@
 // The tokens of a table in words.
 use crate::answer::{Answer, Said};
 use crate::names::{Names, TYPES};
-use crate::says::not_well_formed;
 use crate::texts::print_line;
 use claims::{Claim, FileId};
 use std::fmt;
 use table::{Slot, WIDTH, read_slot, well_formed};
+use words::Refusal;
 
 // A token's number, its host and its types.
 #[derive(Clone, Copy)]
@@ -42,7 +42,7 @@ fn print_token(number: u64, claim: Claim) {
 
 pub(crate) fn held(table: &[u8]) -> Said {
     if !well_formed(table) {
-        return Err(not_well_formed());
+        return Err(Refusal::NotWellFormed.into());
     }
     let mut tokens = 0u64;
     for slot in table.chunks_exact(WIDTH).skip(1) {

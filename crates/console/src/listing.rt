@@ -1,10 +1,9 @@
 // The records of an access list in words.
 use crate::answer::{Answer, Said};
 use crate::names::{Letters, kind_name};
-use crate::says::refused_at;
 use crate::texts::print_line;
 use list::kind::{DEFAULT_REALM, FOREIGN_GROUP, FOREIGN_USER, USER};
-use list::{LONGEST, Record, Step, Walk};
+use list::{LONGEST, Record, Walk};
 use std::fmt;
 use words::Realm;
 
@@ -46,14 +45,11 @@ pub(crate) fn records(list: &[u8]) -> Said {
     let mut walk = Walk::start(list);
     for n in 0..LONGEST {
         let place = walk.at;
-        match walk.step(list) {
-            Step::Next(record, next) => {
-                print_line(&Placed { place, record });
-                walk = next;
-            }
-            Step::Refused { number, place } => return Err(refused_at(number, place)),
-            Step::End => return Ok(Answer::Number(n as u64)),
-        }
+        let Some((record, next)) = walk.step(list)? else {
+            return Ok(Answer::Number(n as u64));
+        };
+        print_line(&Placed { place, record });
+        walk = next;
     }
     Ok(Answer::Number(LONGEST as u64))
 }

@@ -3,6 +3,7 @@
 
 mod amounts;
 mod answer;
+mod asked;
 mod calls;
 mod command;
 mod console;
@@ -18,7 +19,6 @@ mod mistake;
 mod names;
 mod output;
 mod reading;
-mod says;
 mod setting;
 mod showing;
 mod spaced;

@@ -5,9 +5,11 @@ use crate::holding::Token;
 use crate::listing::Placed;
 use crate::names::{Names, RIGHTS};
 use crate::texts::print_line;
-use list::{Read, read_record};
+use evaluate::Found;
+use list::read_record;
 use std::fmt::Display;
-use words::{number16, number64};
+use tokens::Granted;
+use words::{Fault, Refusal, number_at};
 
 // The length of an entry of an ask.
 const ENTRY: usize = 13;
@@ -20,39 +22,47 @@ fn counted(sentence: &str, n: u64) {
     indented(&format_args!("{sentence} {n}"));
 }
 
-// What a refusal of a number says. Some go before a place or a count.
-fn sentence(refusal: u8) -> &'static str {
-    match refusal {
-        10 => "list over 4,096 bytes, at place",
-        11 => "the list does not begin with default_realm, at place",
-        12 => "unknown kind, at place",
-        13 => "body cut short, at place",
-        14 => "rights above 63, at place",
-        15 => "out of order or repeated, at place",
-        16 => "forbidden realm, at place",
-        17 => "user_obj, group_obj or other_obj missing, at place",
-        18 => "no mask_obj, which kinds 6 and above need, at place",
-        19 => "user_obj lacks control, at place",
-        20 => "nothing to drop",
-        21 => "output too short",
-        22 => "mode above 511",
-        23 => "more than 32 groups",
-        24 => "a needed right is missing",
-        30 => "table not well formed",
-        31 => "host 0, types 0 or above 255, or first above last",
-        32 => "a conflict exists",
-        33 => "no free slot",
-        34 => "no number is left",
-        35 => "list buffer too short, the true count is",
-        36 => "no such token of this host",
-        _ => "a type that the token lacks",
+// What is wrong with a list; its place follows.
+fn fault_text(fault: Fault) -> &'static str {
+    match fault {
+        Fault::TooLong => "list over 4,096 bytes, at place",
+        Fault::NoDefaultRealm => "the list does not begin with default_realm, at place",
+        Fault::UnknownKind => "unknown kind, at place",
+        Fault::CutShort => "body cut short, at place",
+        Fault::RightsAbove63 => "rights above 63, at place",
+        Fault::OutOfOrder => "out of order or repeated, at place",
+        Fault::ForbiddenRealm => "forbidden realm, at place",
+        Fault::ObjectMissing => "user_obj, group_obj or other_obj missing, at place",
+        Fault::MaskMissing => "no mask_obj, which kinds 6 and above need, at place",
+        Fault::ControlMissing => "user_obj lacks control, at place",
     }
 }
 
-fn mean_refusal(number: u8, value: Option<u64>) {
-    match value {
-        Some(value) => counted(sentence(number), value),
-        None => indented(&sentence(number)),
+// What a refusal says. Some go before a place or a count.
+fn refusal_text(refusal: Refusal) -> &'static str {
+    match refusal {
+        Refusal::Faulty { fault, .. } => fault_text(fault),
+        Refusal::NothingToDrop => "nothing to drop",
+        Refusal::OutputTooShort => "output too short",
+        Refusal::ModeAbove511 => "mode above 511",
+        Refusal::TooManyGroups => "more than 32 groups",
+        Refusal::RightMissing => "a needed right is missing",
+        Refusal::NotWellFormed => "table not well formed",
+        Refusal::Malformed => "host 0, types 0 or above 255, or first above last",
+        Refusal::Conflict => "a conflict exists",
+        Refusal::NoFreeSlot => "no free slot",
+        Refusal::NumbersSpent => "no number is left",
+        Refusal::ListTooShort { .. } => "list buffer too short, the true count is",
+        Refusal::NoSuchToken => "no such token of this host",
+        Refusal::TypeLacking => "a type that the token lacks",
+        Refusal::NoSuchPart => "a part that cannot be given back",
+    }
+}
+
+fn mean_refusal(refusal: Refusal) {
+    match refusal.value() {
+        Some(value) => counted(refusal_text(refusal), value as u64),
+        None => indented(&refusal_text(refusal)),
     }
 }
 
@@ -73,7 +83,7 @@ fn mean_decided(list: &[u8], place: usize) {
         return indented(&"no record decides");
     }
     let tail = list.get(place..).unwrap_or(&[]);
-    if let Read::Whole(record) = read_record(tail) {
+    if let Ok(Some(record)) = read_record(tail) {
         indented(&Placed { place, record });
     }
 }
@@ -85,28 +95,28 @@ fn mean_asked(out: &[u8], tokens: u64) {
     }
     for entry in out.chunks_exact(ENTRY).take(tokens as usize) {
         indented(&Token {
-            number: number64(entry, 1),
-            host: number16(entry, 9),
-            types: number16(entry, 11),
+            number: number_at(entry, 1),
+            host: number_at(entry, 9),
+            types: number_at(entry, 11),
         });
     }
 }
 
 fn mean_answer(command: Command, answer: Answer, list: &[u8], out: &[u8]) {
     match (command, answer) {
-        (_, Answer::Rights { rights, place, .. }) => {
+        (_, Answer::Rights(Found { rights, start, .. })) => {
             mean_rights(rights);
-            mean_decided(list, place);
+            mean_decided(list, start);
         }
         (_, Answer::Needed(rights)) => mean_rights(rights),
         (Command::Ask, Answer::Number(tokens)) => mean_asked(out, tokens),
         (
             _,
-            Answer::Granted {
+            Answer::Granted(Granted {
                 number,
                 first,
                 last,
-            },
+            }),
         ) => indented(&format_args!("the token has number {number}, bytes {first} to {last}")),
         (Command::Grant, Answer::Number(number)) => counted("the token has number", number),
         (Command::Drop, Answer::Number(tokens)) => counted("tokens freed:", tokens),
@@ -128,7 +138,7 @@ fn mean_answer(command: Command, answer: Answer, list: &[u8], out: &[u8]) {
 pub(crate) fn mean(command: Command, said: &Said, list: &[u8], out: &[u8]) {
     match said {
         Ok(answer) => mean_answer(command, *answer, list, out),
-        Err(Failure::Refused { number, value }) => mean_refusal(*number, *value),
+        Err(Failure::Refused(refusal)) => mean_refusal(*refusal),
         Err(Failure::Mistake(_)) => {}
     }
 }

@@ -1,5 +1,5 @@
 // The output buffer, and what of it is lent, written and read.
-use crate::answer::{Answer, Failure, Said};
+use crate::answer::Answer;
 
 pub(crate) const SIZE: usize = 16384;
 
@@ -28,18 +28,17 @@ impl Output {
         &mut bytes[..room]
     }
 
-    // The answer to an edit, which wrote a list of a length or was refused.
-    pub(crate) fn after_edit(&mut self, edited: Result<usize, Failure>) -> Said {
-        let length = edited?;
+    // The answer to an edit that wrote a list of a length.
+    pub(crate) fn after_edit(&mut self, length: usize) -> Answer {
         self.edited = Some(length);
-        Ok(Answer::Number(length as u64))
+        Answer::Number(length as u64)
     }
 
-    // After an ask: tokens that it lists stand where an edit wrote.
-    pub(crate) fn after_ask(&mut self, said: Said) -> Said {
-        if let Ok(Answer::Number(1..)) = said {
+    // The answer to an ask: tokens that it lists stand where an edit wrote.
+    pub(crate) fn after_ask(&mut self, tokens: usize) -> Answer {
+        if tokens != 0 {
             self.edited = None;
         }
-        said
+        Answer::Number(tokens as u64)
     }
 }

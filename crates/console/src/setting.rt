@@ -68,8 +68,8 @@ impl Console {
     }
 
     pub(crate) fn set_list(&mut self, line: &[u8]) -> Said {
-        self.list = hexes::bytes_in(word(line, 1)).ok_or(Mistake::Bytes)?;
-        Ok(Answer::length(&self.list))
+        self.asked.list = hexes::bytes_in(word(line, 1)).ok_or(Mistake::Bytes)?;
+        Ok(Answer::length(&self.asked.list))
     }
 
     // The first bytes of the output buffer become the list: as many as LENGTH says, or else what the last edit wrote.
@@ -78,9 +78,9 @@ impl Console {
             [] => self.out.edited.ok_or(Mistake::NoEdit)?,
             given => at_most(given, SIZE).ok_or(Mistake::Kept)?,
         };
-        self.list = ArrayVec::from(self.out.bytes);
-        self.list.truncate(kept);
-        Ok(Answer::length(&self.list))
+        self.asked.list = ArrayVec::from(self.out.bytes);
+        self.asked.list.truncate(kept);
+        Ok(Answer::length(&self.asked.list))
     }
 
     pub(crate) fn set_room(&mut self, line: &[u8]) -> Said {
@@ -90,18 +90,18 @@ impl Console {
 
     pub(crate) fn set_caller(&mut self, line: &[u8]) -> Said {
         let caller = caller_in(line).ok_or(Mistake::Caller)?;
-        self.groups = groups_in(line).ok_or(Mistake::Caller)?;
-        self.caller = caller;
+        self.asked.groups = groups_in(line).ok_or(Mistake::Caller)?;
+        self.asked.caller = caller;
         Ok(Answer::Done)
     }
 
     pub(crate) fn set_file(&mut self, line: &[u8]) -> Said {
-        self.file = file_in(line).ok_or(Mistake::File)?;
+        self.asked.file = file_in(line).ok_or(Mistake::File)?;
         Ok(Answer::Done)
     }
 
     pub(crate) fn set_guard(&mut self, line: &[u8]) -> Said {
-        self.guard = match (word(line, 1), count(line)) {
+        self.asked.guard = match (word(line, 1), count(line)) {
             (b"mode", _) => mode_guard_in(line).ok_or(Mistake::Mode)?,
             (b"list", 2) => Guard::List,
             _ => return Err(Mistake::Guard.into()),
