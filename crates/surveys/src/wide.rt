@@ -1,4 +1,4 @@
-// Surveying a table for the widest range, which is found on the way.
+// Surveying a table for the widest range, which is found on the way. One loop for both surveys would cost ask and grant.
 ghost use Rattle.std.specs.Prelude.{◌≡◌, true, ◌≤◌, length};
 ghost use Rattle.table.specs.Layout.{width, count};
 ghost use Rattle.widest.specs.Widest.{is_rival};

@@ -40,6 +40,7 @@ pub(crate) fn read_claim(slot: &[u8]) -> Claim
 }
 
 // What the bytes of a slot say: a token where the kind is 1, else nothing.
+#[tactic(auto, unfolding(crate::specs::Layout::slot_of))]
 pub fn read_slot(slot: &[u8]) -> Slot
     ensures { ReadsSlot slot.now result }
 {
