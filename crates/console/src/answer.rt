@@ -23,10 +23,7 @@ pub enum Answer {
     // How a command's line is written.
     Usage(Command),
     // How many answers were as expected, and how many not.
-    Score {
-        met: u64,
-        missed: u64,
-    },
+    Score { met: u64, missed: u64 },
     // What the console remembers, and tells itself: bytes in hex, or the line that would set it.
     Table,
     List,
@@ -87,16 +84,20 @@ impl fmt::Display for Answer {
             Answer::Done => f.write_str("done"),
             Answer::Number(n) => done(f, *n),
             Answer::Needed(rights) => done(f, u64::from(*rights)),
-            Answer::Granted(Granted {
-                number,
-                first,
-                last,
-            }) => done_with(f, *number, *first, *last),
-            Answer::Rights(Found {
-                rights,
-                start,
-                size,
-            }) => done_with(f, u64::from(*rights), *start as u64, *size as u64),
+            Answer::Granted(
+                Granted {
+                    number,
+                    first,
+                    last,
+                },
+            ) => done_with(f, *number, *first, *last),
+            Answer::Rights(
+                Found {
+                    rights,
+                    start,
+                    size,
+                },
+            ) => done_with(f, u64::from(*rights), *start as u64, *size as u64),
             Answer::Audited(true) => f.write_str("yes"),
             Answer::Audited(false) => f.write_str("no"),
             Answer::Usage(command) => f.write_str(command.usage()),

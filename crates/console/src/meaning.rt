@@ -112,11 +112,13 @@ fn mean_answer(command: Command, answer: Answer, list: &[u8], out: &[u8]) {
         (Command::Ask, Answer::Number(tokens)) => mean_asked(out, tokens),
         (
             _,
-            Answer::Granted(Granted {
-                number,
-                first,
-                last,
-            }),
+            Answer::Granted(
+                Granted {
+                    number,
+                    first,
+                    last,
+                },
+            ),
         ) => indented(&format_args!("the token has number {number}, bytes {first} to {last}")),
         (Command::Grant, Answer::Number(number)) => counted("the token has number", number),
         (Command::Drop, Answer::Number(tokens)) => counted("tokens freed:", tokens),

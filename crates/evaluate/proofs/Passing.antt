@@ -56,11 +56,6 @@ pub dir_unasked : (list groups : List ℕ) (caller : Caller) (file : File) (dir 
 unfolding list_gives served_in steps here abroad
 dir_unasked list groups caller file dir = refl
 
--- a refusal that is handed on
-pub handed_on : {A : Type 0} (r : Result A Refusal) (refusal : Refusal) → IsErrAnd r (λ given. given ≡ refusal) → r ≡ Err refusal
-handed_on (Ok a) refusal h = absurd h
-handed_on (Err given) refusal h = ap Err h
-
 module _ {l groups : List ℕ} {caller : Caller} {file : File} where
   -- how a pass ends
   pub ends_refused : {refusal : Refusal} → check_says l ≡ refusal_says refusal → Passes l groups caller file (Err refusal)

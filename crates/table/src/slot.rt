@@ -17,10 +17,7 @@ pub enum Slot {
 pub(crate) fn kind_of(slot: &[u8]) -> u8
     ensures { result ≡ kind_of slot.now }
 {
-    if slot.len() == 0 {
-        return 0;
-    }
-    slot[0]
+    slot.first().copied().unwrap_or(0)
 }
 
 #[tactic(auto, unfolding(crate::specs::Layout::claim_of))]

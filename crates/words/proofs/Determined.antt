@@ -1,10 +1,8 @@
 -- Two outcomes that meet a statement are equal. Assumes nothing.
 use mathlib.Core.Path.{◌≡◌, sym, ◌∙◌, ap}
 use mathlib.Core.Bool.{Bool}
-use mathlib.Core.List.{List, [], ◌∷◌}
+use mathlib.Core.List.{List}
 use Prim.Native.Nat.{ℕ}
-use lib.ListN.{get_or}
-use Rattle.words.specs.Said.{Said, done, refused}
 use Rattle.std.specs.Prelude.{Option}
 use Rattle.words.specs.Number.{TellsWithin, ReadsNumber}
 use Rattle.words.specs.Realm.{ReadsRealm, TellsRealms, TellsUnknown}
@@ -16,13 +14,6 @@ use Rattle.words.specs.declared.refusal.Refusal.{Refusal}
 pub same_answer : {R S : Type 0} (saying : R → S) (back : S → R) → ((r : R) → back (saying r) ≡ r)
     → {said : S} (r r' : R) → saying r ≡ said → saying r' ≡ said → r ≡ r'
 same_answer saying back inverse r r' p q = sym (inverse r) ∙ ap back (p ∙ sym q) ∙ inverse r'
-
--- an answer by what it says: a value, or a refusal without a place or with one
-module _ {R : Type 0} (value plain : ℕ → R) (placed : ℕ → ℕ → R) where
-  unfoldable pub unsaid : Said → R
-  unsaid (done values) = value (get_or values 0 0)
-  unsaid (refused number []) = plain number
-  unsaid (refused number (place ∷ more)) = placed number place
 
 pub holds_determined : (width : ℕ) (bytes : List ℕ) (at : ℕ) (r r' : Bool) → TellsWithin width bytes at r → TellsWithin width bytes at r' → r ≡ r'
 holds_determined width bytes at r r' p q = p.answer ∙ sym q.answer

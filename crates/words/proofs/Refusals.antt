@@ -3,7 +3,7 @@ use mathlib.Core.Path.{◌≡◌, refl, ap}
 use mathlib.Core.List.{List, [], ◌∷◌}
 use Prim.Native.Nat.{ℕ}
 use lib.ListN.{get_or}
-use Rattle.std.specs.Prelude.{Option, None, Some, Result, Ok, Err, unwrap_or}
+use Rattle.std.specs.Prelude.{Option, None, Some, Result, Ok, Err, IsErrAnd, unwrap_or}
 use Rattle.words.specs.Said.{Said, done, refused}
 use Rattle.words.specs.Refusal.{fault_of, refusal_of, number_of, refusal_number, refusal_value, values_in, refusal_says, says_by, plain_says, number_says}
 use Rattle.words.specs.declared.refusal.Fault.TheVariants.{TooLong, NoDefaultRealm, UnknownKind, CutShort, RightsAbove63, OutOfOrder, ForbiddenRealm, ObjectMissing, MaskMissing, ControlMissing}
@@ -63,3 +63,8 @@ pub first_value : (value : Option ℕ) → unwrap_or value 0 ≡ get_or (values_
 unfolding values_in
 first_value None = refl
 first_value (Some value) = refl
+
+-- a refusal that is handed on
+pub handed_on : {A : Type 0} (r : Result A Refusal) (refusal : Refusal) → IsErrAnd r (λ given. given ≡ refusal) → r ≡ Err refusal
+handed_on (Ok a) refusal h = absurd h
+handed_on (Err given) refusal h = ap Err h

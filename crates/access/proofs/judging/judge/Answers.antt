@@ -1,4 +1,4 @@
-use Rattle.evaluate.proofs.Passing.{handed_on}
+use Rattle.words.proofs.Refusals.{handed_on}
 use Rattle.access.proofs.Verdicts.{undecided, judged}
 use Rattle.access.proofs.judging.judge.Goals as goal
 

@@ -1,4 +1,4 @@
-use Rattle.evaluate.proofs.Passing.{handed_on}
+use Rattle.words.proofs.Refusals.{handed_on}
 use Rattle.edit.proofs.Outcomes.{drop_fits, drop_written, drop_refused}
 use Rattle.edit.proofs.editing.drop_entry.Goals as goal
 

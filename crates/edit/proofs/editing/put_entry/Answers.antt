@@ -1,4 +1,4 @@
-use Rattle.evaluate.proofs.Passing.{handed_on}
+use Rattle.words.proofs.Refusals.{handed_on}
 use Rattle.edit.proofs.Outcomes.{put_fits, put_written, put_refused}
 use Rattle.edit.proofs.editing.put_entry.Goals as goal
 

@@ -2,7 +2,7 @@ use mathlib.Core.Path.{refl, sym, ◌∙◌}
 use mathlib.Core.List.{[]}
 use native.Mathlib.Nat.{sub-zero}
 use borrow.Author.Rules.{part_to_end}
-use Rattle.evaluate.proofs.Passing.{handed_on}
+use Rattle.words.proofs.Refusals.{handed_on}
 use Rattle.edit.proofs.Spliced.{no_room, room_without}
 use Rattle.edit.proofs.writing.write_drop.Goals as goal
 

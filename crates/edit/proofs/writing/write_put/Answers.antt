@@ -1,7 +1,7 @@
 use mathlib.Core.Path.{refl, ◌∙◌}
 use native.Mathlib.Nat.{sub-zero}
 use borrow.Author.Rules.{part_to_end}
-use Rattle.evaluate.proofs.Passing.{handed_on}
+use Rattle.words.proofs.Refusals.{handed_on}
 use Rattle.entry.specs.Entry.{record_for}
 use Rattle.entry.specs.Spelling.{spelled}
 use Rattle.edit.proofs.Pieces.{record_length}

@@ -1,5 +1,5 @@
 use mathlib.Core.Path.{sym, ◌∙◌}
-use Rattle.evaluate.proofs.Passing.{handed_on}
+use Rattle.words.proofs.Refusals.{handed_on}
 use Rattle.entry.proofs.Outcomes.{unchecked, unknown, known}
 use Rattle.entry.proofs.planning.check.Goals as goal
 

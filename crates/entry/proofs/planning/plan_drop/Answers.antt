@@ -1,5 +1,5 @@
 use native.Mathlib.Omega.{arith}
-use Rattle.evaluate.proofs.Passing.{handed_on}
+use Rattle.words.proofs.Refusals.{handed_on}
 use Rattle.entry.specs.Plan.{plan_at}
 use Rattle.entry.proofs.Lengths.{is_above}
 use Rattle.entry.proofs.Located.{locate, spot_inside}

@@ -1,7 +1,8 @@
 use mathlib.Core.Path.{◌∙◌}
 use Rattle.evaluate.specs.Evaluation.{evaluation, evaluated_as}
 use Rattle.evaluate.proofs.Many.{too_many, not_too_many}
-use Rattle.evaluate.proofs.Passing.{handed_on, dir_unasked, evaluated_refused, evaluated_fine}
+use Rattle.words.proofs.Refusals.{handed_on}
+use Rattle.evaluate.proofs.Passing.{dir_unasked, evaluated_refused, evaluated_fine}
 use Rattle.evaluate.proofs.evaluation.evaluate.Goals as goal
 
 pub returns-then-groups-gt-MOST_GROUPS : goal.returns-then-groups-gt-MOST_GROUPS

@@ -6,7 +6,8 @@ use Rattle.list.specs.declared.walk.Walk.{Walk}
 use Rattle.list.proofs.Runs.{starts, goes, falls, refuses, passes_all, gathers_all}
 use Rattle.evaluate.specs.Asking.{of_default_realm}
 use Rattle.evaluate.specs.Tally.{no_tally, tallying}
-use Rattle.evaluate.proofs.Passing.{handed_on, ends_refused, ends_fine}
+use Rattle.words.proofs.Refusals.{handed_on}
+use Rattle.evaluate.proofs.Passing.{ends_refused, ends_fine}
 use Rattle.evaluate.proofs.pass.pass.Goals as goal
 
 pub loop-r-init : goal.loop-r-init

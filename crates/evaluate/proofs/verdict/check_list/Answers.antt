@@ -1,4 +1,5 @@
-use Rattle.evaluate.proofs.Passing.{handed_on, checked_refused, checked_fine}
+use Rattle.words.proofs.Refusals.{handed_on}
+use Rattle.evaluate.proofs.Passing.{checked_refused, checked_fine}
 use Rattle.evaluate.proofs.verdict.check_list.Goals as goal
 
 pub returns-in_err-pass : goal.returns-in_err-pass

@@ -1,5 +1,5 @@
 use native.Mathlib.Omega.{arith}
-use Rattle.evaluate.proofs.Passing.{handed_on}
+use Rattle.words.proofs.Refusals.{handed_on}
 use Rattle.rights.proofs.Handing.{refused, start_is, size_is, decides}
 use Rattle.rights.proofs.Inside.{decided_fits}
 use Rattle.rights.proofs.decision.rights.Goals as goal
