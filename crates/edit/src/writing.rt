@@ -92,7 +92,7 @@ pub(crate) fn write_put(
     Ok(plan.total)
 }
 
-// The list without what stands at the plan's spot.
+// The list without what stands at the plan's spot. Apart from `write_put`: one function for both would ask at each step which it is.
 pub(crate) fn write_drop(list: &[u8], plan: Plan, out: &mut [u8]) -> Result<usize, Refusal>
     requires { Fits list.now plan × (plan.size ≡ 0) }
     ensures { Writes (splice list.now plan.spot []) out.old result out.new }

@@ -76,7 +76,7 @@ fn side_of(tail: &[u8], r: Record) -> Ordering
     Ordering::Equal
 }
 
-// The spot of r in a list that passed.
+// The spot of r in a list that passed. A `while`: how long a record is, its kind tells, so no iterator of the library goes from one to the next.
 pub(crate) fn find(list: &[u8], r: Record) -> Spot
     requires { (check_says list.now ≡ done []) × (1 < r.kind) }
     ensures { result ≡ spot_for list.now r }

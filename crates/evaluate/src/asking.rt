@@ -4,7 +4,7 @@ ghost use Rattle.evaluate.specs.Asking.{of_default_realm, TellsGroup};
 
 use words::Realm;
 
-// A caller; its further groups are lent beside it.
+// A caller; its further groups are lent beside it, as C lends them, so that a caller is plain numbers.
 #[derive(Clone, Copy)]
 pub struct Caller {
     pub realm: Realm,

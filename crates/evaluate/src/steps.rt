@@ -11,7 +11,7 @@ use list::kind::{
     USER_OBJ,
 };
 
-// After all seven: what a record that serves none is given.
+// After all seven: what a record that serves none is given. A number, and no `Option`, since one `<` then passes it over with all later steps.
 const NONE: u8 = 8;
 
 // The step, if the record serves it.

@@ -10,6 +10,7 @@ const OWNER: u8 = 1;
 
 const OTHER: u8 = 4;
 
+// The seventh step, which no record serves.
 const NOTHING: u8 = 7;
 
 // All eight bits: what is left where there is no mask_obj.

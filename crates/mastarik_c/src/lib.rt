@@ -1,4 +1,4 @@
-// The static library: every call of `mastarik`, for C.
+// The static library: every call of `mastarik`, for C, which wants each function written out.
 #![tactic(auto)]
 
 mod lists;

@@ -10,7 +10,7 @@ use words::Refusal;
 // The types of a set are its lowest eight bits.
 const ALL: u16 = 0b1111_1111;
 
-// What stays of a token: nothing, one claim, or the bytes before a part and those after it.
+// What stays of a token: nothing, one claim, or the bytes before a part and those after it. Two options would have a fourth case.
 #[derive(Clone, Copy)]
 pub enum Kept {
     Nothing,

@@ -1,4 +1,5 @@
-// The kinds of records.
+// The kinds of records: numbers, since a record of any byte has its place in the order and its answer (`in_order`, `is_forbidden`), and
+// an enum would shut most bytes out.
 ghost use Rattle.std.specs.Prelude.{◌≡◌};
 ghost use Rattle.records.specs.Kind.{is_foreign};
 

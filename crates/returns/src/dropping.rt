@@ -30,6 +30,7 @@ fn free_slot(table: &mut [u8], at: usize, host: u16) -> bool
     true
 }
 
+// By the places of the slots: nothing is known of what is written through `chunks_exact_mut`.
 fn free_all(table: &mut [u8], host: u16) -> u64
     requires { well_formed table.old ≡ true }
     ensures { FreesAll table.old host result table.new }

@@ -1,4 +1,4 @@
-// The rights, a bit each.
+// The rights, a bit each: a set of them is a number, as lists have it.
 pub const READ: u8 = 1;
 
 pub const WRITE: u8 = 2;

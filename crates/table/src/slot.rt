@@ -5,7 +5,7 @@ ghost use Rattle.table.specs.Layout.{kind_of, claim_of, ReadsSlot};
 use claims::{Claim, FileId};
 use words::number_at;
 
-// A token is a claim under a number.
+// A token is a claim under a number. Free and held are the paper's words, which an `Option` would not say.
 #[derive(Clone, Copy)]
 pub enum Slot {
     Free,

@@ -3,7 +3,7 @@ ghost use Rattle.words.specs.Realm.{ReadsRealm, TellsUnknown};
 
 use crate::number::{Number, holds};
 
-#[derive(Clone, Copy, PartialEq, Eq, PartialOrd, Ord)]
+#[derive(Clone, Copy, PartialEq, Eq)]
 pub struct Realm {
     pub hi: u64,
     pub lo: u64,
