@@ -1,7 +1,7 @@
 -- Callers and records of the zero realm. Assumes nothing.
 use mathlib.Core.Path.{◌≡◌, refl, sym, ◌∙◌, ap}
 use mathlib.Core.List.{List}
-use mathlib.Core.Bool.{Bool, true, false, not, ◌||◌, ◌&&◌, and-false, or-true}
+use mathlib.Core.Bool.{Bool, true, false, not, ◌||◌, ◌&&◌, and-false, or-true, or-false}
 use mathlib.Core.Logic.{inl}
 use Prim.Native.Nat.{ℕ}
 use borrow.Author.Tests.{eq-eqb, ne_eqb}
@@ -20,6 +20,16 @@ use Rattle.evaluate.specs.declared.asking.Caller.{Caller}
 use Rattle.evaluate.specs.declared.asking.File.{File}
 use Rattle.evaluate.proofs.Counting.{Untaken}
 use Rattle.evaluate.proofs.Alike.{OneRealm, alike}
+
+-- of which realm a caller is, by what was tested
+module _ (caller : Caller) (default : Realm) {zero : Bool} (told : zero ≡ same_realm caller.realm zero_realm) where
+  pub zero_counts : zero ≡ true → true ≡ of_default_realm caller default
+  unfolding of_default_realm
+  zero_counts q = rw (sym told ∙ q, or-true) refl
+
+  pub default_counts : zero ≡ false → {same : Bool} → same ≡ same_realm caller.realm default → same ≡ of_default_realm caller default
+  unfolding of_default_realm
+  default_counts q same = rw (sym told ∙ q, or-false) same
 
 abbrev pub of : Realm → ℕ → ℕ → Caller
 of realm user group = record { realm = realm; user = user; group = group }

@@ -5,7 +5,6 @@ use mathlib.Core.Bool.{Bool, and-false}
 use Prim.Native.Nat.{ℕ, ◌<◌}
 use Rattle.words.specs.Test.{those}
 use Rattle.std.specs.Prelude.{Result, Ok, Err}
-use Rattle.std.specs.Result.{IsErrAnd}
 use Rattle.words.specs.Said.{done}
 use Rattle.words.specs.Refusal.{refusal_says, says_by}
 use Rattle.words.specs.declared.refusal.Refusal.{Refusal}
