@@ -33,7 +33,7 @@ impl Asked {
         }
     }
 
-    pub(crate) fn access(&self) -> Access<'_> {
+    pub(crate) fn access(&self) -> Access<'_, '_> {
         Access {
             list: &self.list,
             groups: &self.groups,

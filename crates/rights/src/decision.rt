@@ -22,7 +22,7 @@ fn part_at<'a>(list: &'a [u8], start: usize, size: usize) -> &'a [u8]
 }
 
 // The rights of a caller on a file under its guard, or the refusal, with the record that decided.
-pub fn rights<'a>(access: Access<'a>) -> Result<Decision<'a>, Refusal>
+pub fn rights<'a, 'g>(access: Access<'a, 'g>) -> Result<Decision<'a>, Refusal>
     ensures { Decides (decided_by access.entry) access.entry.list result }
 {
     let found = decide(access)?;

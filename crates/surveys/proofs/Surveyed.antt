@@ -1,5 +1,6 @@
 -- One scan: the form, the tokens in the way, the lowest free slot. Assumes nothing.
-use Rattle.std.specs.Prelude.{None, Result, Ok, Err}
+use Rattle.std.specs.Prelude.{Option, None, Some, Err}
+use Rattle.std.specs.Option.{ok_or}
 use mathlib.Core.Path.{◌≡◌, refl, sym, ◌∙◌, ap}
 use mathlib.Core.Bool.{Bool, true, false}
 use mathlib.Core.List.{List, [], ◌∷◌, ◌++◌, map}
@@ -10,7 +11,6 @@ use borrow.Author.Tests.{eqb-false, ne_eqb, not-true}
 use lib.Dec.{eqb}
 use lib.ListN.{length, take, drop, length-append, length-map}
 use Rattle.words.specs.Test.{those}
-use Rattle.words.specs.declared.refusal.Refusal.{Refusal}
 use Rattle.words.specs.declared.refusal.Refusal.TheVariants.{NotWellFormed}
 use Rattle.words.proofs.Tests.{map_append, those_few, counted_more}
 use Rattle.claims.specs.Claim.{with_range}
@@ -79,10 +79,10 @@ module _ {bytes : List ℕ} {claim : Claim} {top next size : ℕ} {rest : List �
           };
         }
 
-    pub ill_looked : b ≡ false → SurveysSlots bytes claim top next (Err NotWellFormed)
-    ill_looked bad = record { saw = tt; ill = (sym (one_bad so_far.checked slot more given told bad), refl) }
+    pub ill_looked : b ≡ false → SurveysSlots bytes claim top next None
+    ill_looked bad = record { saw = tt; ill = sym (one_bad so_far.checked slot more given told bad) }
 
-  pub all_looked : length rest < size → SurveysSlots bytes claim top next (Ok seen)
+  pub all_looked : length rest < size → SurveysSlots bytes claim top next (Some seen)
   unfolding table_of
   all_looked h = record {
     saw = (sym (all_checked so_far.checked h), rw (all_passed so_far.checked.slots h) so_far.saw);
@@ -136,10 +136,10 @@ module _ {bytes : List ℕ} {claim : Claim} {top next size : ℕ} {rest : List �
           rw longer (one_narrowed so_far.narrowed value p.leaves);
     }
 
-    pub ill_looked_wide : b ≡ false → SurveysSlotsWide bytes claim top next (Err NotWellFormed)
+    pub ill_looked_wide : b ≡ false → SurveysSlotsWide bytes claim top next None
     ill_looked_wide bad = record { saw = tt; ill = (ill_looked so_far.looked slot more given told bad).ill }
 
-  pub all_looked_wide : length rest < size → SurveysSlotsWide bytes claim top next (Ok (record { seen = seen; range = range }))
+  pub all_looked_wide : length rest < size → SurveysSlotsWide bytes claim top next (Some (record { seen = seen; range = range }))
   unfolding table_of widened
   all_looked_wide h =
       let s = (all_looked so_far.looked h).saw in
@@ -150,17 +150,17 @@ pub no_survey : (bytes : List ℕ) (claim : Claim) {b : Bool} → b ≡ opening 
 unfolding well_formed
 no_survey bytes claim told bad = record { saw = tt; ill = (rw (← told, bad) refl, refl) }
 
-pub whole_survey : (bytes : List ℕ) (claim : Claim) {b : Bool} → b ≡ opening bytes → b ≡ true → (r : Result Seen Refusal)
-    → SurveysSlots bytes claim (limit (table_of bytes)) (next_in bytes) r → Surveys bytes claim r
+pub whole_survey : (bytes : List ℕ) (claim : Claim) {b : Bool} → b ≡ opening bytes → b ≡ true → (r : Option Seen)
+    → SurveysSlots bytes claim (limit (table_of bytes)) (next_in bytes) r → Surveys bytes claim (ok_or r NotWellFormed)
 unfolding well_formed
-whole_survey bytes claim told good (Ok seen) s = record { saw = (rw (← told, good) s.saw.0, s.saw.1); ill = tt }
-whole_survey bytes claim told good (Err refusal) s = record { saw = tt; ill = (rw (← told, good) s.ill.0, s.ill.1) }
+whole_survey bytes claim told good (Some seen) s = record { saw = (rw (← told, good) s.saw.0, s.saw.1); ill = tt }
+whole_survey bytes claim told good None s = record { saw = tt; ill = (rw (← told, good) s.ill, refl) }
 
 pub no_survey_wide : (bytes : List ℕ) (claim : Claim) {b : Bool} → b ≡ opening bytes → b ≡ false → SurveysWide bytes claim (Err NotWellFormed)
 no_survey_wide bytes claim told bad = record { saw = tt; ill = (no_survey bytes claim told bad).ill }
 
-pub whole_survey_wide : (bytes : List ℕ) (claim : Claim) {b : Bool} → b ≡ opening bytes → b ≡ true → (r : Result SeenWide Refusal)
-    → SurveysSlotsWide bytes claim (limit (table_of bytes)) (next_in bytes) r → SurveysWide bytes claim r
+pub whole_survey_wide : (bytes : List ℕ) (claim : Claim) {b : Bool} → b ≡ opening bytes → b ≡ true → (r : Option SeenWide)
+    → SurveysSlotsWide bytes claim (limit (table_of bytes)) (next_in bytes) r → SurveysWide bytes claim (ok_or r NotWellFormed)
 unfolding well_formed
-whole_survey_wide bytes claim told good (Ok seen) s = record { saw = (rw (← told, good) s.saw.0, s.saw.1, s.saw.2); ill = tt }
-whole_survey_wide bytes claim told good (Err refusal) s = record { saw = tt; ill = (rw (← told, good) s.ill.0, s.ill.1) }
+whole_survey_wide bytes claim told good (Some seen) s = record { saw = (rw (← told, good) s.saw.0, s.saw.1, s.saw.2); ill = tt }
+whole_survey_wide bytes claim told good None s = record { saw = tt; ill = (rw (← told, good) s.ill, refl) }

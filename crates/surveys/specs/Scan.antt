@@ -1,9 +1,7 @@
 -- Contracts of the crate's own functions: what a scan has seen of the slots so far.
-use Rattle.std.specs.Prelude.{◌≡◌, true, false, not, Some, Result, IfOk, IfErr, List, ℕ, ◌+◌, eqb, if◌then◌else◌}
+use Rattle.std.specs.Prelude.{◌≡◌, true, false, not, Option, Some, IfSome, IfNone, List, ℕ, ◌+◌, eqb, if◌then◌else◌}
 use Rattle.std.specs.Option.{option_or}
 use Rattle.words.specs.Test.{all_of}
-use Rattle.words.specs.declared.refusal.Refusal.{Refusal}
-use Rattle.words.specs.declared.refusal.Refusal.TheVariants.{NotWellFormed}
 use Rattle.claims.specs.Rule.{conflict}
 use Rattle.claims.specs.declared.claim.Claim.{Claim}
 use Rattle.table.specs.Table.{is_free, is_in_the_way}
@@ -25,9 +23,9 @@ pub record PassesToken (seen : Seen) (held claim : Claim) (r : Seen) : Type 0 wh
   pub conflicts : r.conflicts ≡ (if not (eqb (conflict held claim) 0) then seen.conflicts + 1 else seen.conflicts)
   pub free : r.free ≡ seen.free
 
-pub record SurveysSlots (bytes : List ℕ) (claim : Claim) (top next : ℕ) (r : Result Seen Refusal) : Type 0 where
-  pub saw : IfOk r (λ seen. (all_of (is_slot top next) (slots_in bytes) ≡ true) × Saw (table_of bytes).slots claim seen)
-  pub ill : IfErr r (λ refusal. (all_of (is_slot top next) (slots_in bytes) ≡ false) × (refusal ≡ NotWellFormed))
+pub record SurveysSlots (bytes : List ℕ) (claim : Claim) (top next : ℕ) (r : Option Seen) : Type 0 where
+  pub saw : IfSome r (λ seen. (all_of (is_slot top next) (slots_in bytes) ≡ true) × Saw (table_of bytes).slots claim seen)
+  pub ill : IfNone r (all_of (is_slot top next) (slots_in bytes) ≡ false)
 
 -- the same, and the range that the tokens leave
 pub record PassesTokenWide (seen : Seen) (range : Range) (held claim : Claim) (r : SeenWide) : Type 0 where
@@ -38,6 +36,6 @@ pub record PassesWide (seen : Seen) (range : Range) (i : ℕ) (slot : Slot) (cla
   pub passes : Passes seen i slot claim r.seen
   pub leaves : over claim r.range ≡ narrowed claim (over claim range) slot
 
-pub record SurveysSlotsWide (bytes : List ℕ) (claim : Claim) (top next : ℕ) (r : Result SeenWide Refusal) : Type 0 where
-  pub saw : IfOk r (λ told. (all_of (is_slot top next) (slots_in bytes) ≡ true) × Saw (table_of bytes).slots claim told.seen × (over claim told.range ≡ widened claim (table_of bytes)))
-  pub ill : IfErr r (λ refusal. (all_of (is_slot top next) (slots_in bytes) ≡ false) × (refusal ≡ NotWellFormed))
+pub record SurveysSlotsWide (bytes : List ℕ) (claim : Claim) (top next : ℕ) (r : Option SeenWide) : Type 0 where
+  pub saw : IfSome r (λ told. (all_of (is_slot top next) (slots_in bytes) ≡ true) × Saw (table_of bytes).slots claim told.seen × (over claim told.range ≡ widened claim (table_of bytes)))
+  pub ill : IfNone r (all_of (is_slot top next) (slots_in bytes) ≡ false)

@@ -47,7 +47,7 @@ fn pass(seen: Seen, i: usize, slot: Slot, claim: Claim) -> Seen
     }
 }
 
-fn survey_slots(table: &[u8], claim: Claim, limit: u16, next: u64) -> Result<Seen, Refusal>
+fn survey_slots(table: &[u8], claim: Claim, limit: u16, next: u64) -> Option<Seen>
     requires { (width ≤ length table.now) × (count table.now ≤ 1024) }
     ensures { SurveysSlots table.now claim limit next result }
 {
@@ -57,13 +57,13 @@ fn survey_slots(table: &[u8], claim: Claim, limit: u16, next: u64) -> Result<See
     };
     for (i, slot) in table[WIDTH..].chunks_exact(WIDTH).enumerate() {
         if !is_slot(slot, limit, next) {
-            return Err(Refusal::NotWellFormed);
+            return None;
         }
         seen = pass(seen, i, read_slot(slot), claim);
     }
     // Made anew: copied whole into the result, the count is kept in parts through the loop, a tenth slower.
     let Seen { conflicts, free } = seen;
-    Ok(Seen { conflicts, free })
+    Some(Seen { conflicts, free })
 }
 
 pub fn survey(table: &[u8], claim: Claim) -> Result<Seen, Refusal>
@@ -72,5 +72,5 @@ pub fn survey(table: &[u8], claim: Claim) -> Result<Seen, Refusal>
     if !opens(table) {
         return Err(Refusal::NotWellFormed);
     }
-    survey_slots(table, claim, LIMIT, number_at(table, NEXT))
+    survey_slots(table, claim, LIMIT, number_at(table, NEXT)).ok_or(Refusal::NotWellFormed)
 }

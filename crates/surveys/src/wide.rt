@@ -73,7 +73,7 @@ fn pass_wide(seen: Seen, range: Range, i: usize, slot: Slot, claim: Claim) -> Se
     }
 }
 
-fn survey_slots_wide(table: &[u8], claim: Claim, limit: u16, next: u64) -> Result<SeenWide, Refusal>
+fn survey_slots_wide(table: &[u8], claim: Claim, limit: u16, next: u64) -> Option<SeenWide>
     requires { (width ≤ length table.now) × (count table.now ≤ 1024) }
     ensures { SurveysSlotsWide table.now claim limit next result }
 {
@@ -84,13 +84,13 @@ fn survey_slots_wide(table: &[u8], claim: Claim, limit: u16, next: u64) -> Resul
     let mut range = Range::ALL;
     for (i, slot) in table[WIDTH..].chunks_exact(WIDTH).enumerate() {
         if !is_slot(slot, limit, next) {
-            return Err(Refusal::NotWellFormed);
+            return None;
         }
         let told = pass_wide(seen, range, i, read_slot(slot), claim);
         seen = told.seen;
         range = told.range;
     }
-    Ok(SeenWide { seen, range })
+    Some(SeenWide { seen, range })
 }
 
 pub fn survey_wide(table: &[u8], claim: Claim) -> Result<SeenWide, Refusal>
@@ -99,5 +99,5 @@ pub fn survey_wide(table: &[u8], claim: Claim) -> Result<SeenWide, Refusal>
     if !opens(table) {
         return Err(Refusal::NotWellFormed);
     }
-    survey_slots_wide(table, claim, LIMIT, number_at(table, NEXT))
+    survey_slots_wide(table, claim, LIMIT, number_at(table, NEXT)).ok_or(Refusal::NotWellFormed)
 }

@@ -1,5 +1,6 @@
+use borrow.Author.Rules.{rules}
 use Rattle.mastarik.proofs.Carried.{checks}
 use Rattle.mastarik.proofs.lists.mastarik_check.Goals as goal
 
 pub returns : goal.returns
-returns c = checks c.told.ensures c.check_list.ensures
+returns c = search (checks, rules)

@@ -1,5 +1,6 @@
+use borrow.Author.Rules.{rules}
 use Rattle.mastarik.proofs.Carried.{audits}
 use Rattle.mastarik.proofs.tables.mastarik_audit.Goals as goal
 
 pub returns : goal.returns
-returns c = audits c.told.ensures c.audit.ensures
+returns c = search (audits, rules)

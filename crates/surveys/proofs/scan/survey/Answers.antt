@@ -15,4 +15,4 @@ survey_slots-requires c = let s = sized c.args.table.now (opening_length c.args.
 
 pub returns : goal.returns
 unfolding limit next_in table_of
-returns c = whole_survey c.args.table.now c.args.claim c.opens.ensures.answer c.if-not-opens.false c.survey_slots.result (rw c.number_at.ensures.answer at c.survey_slots.ensures)
+returns c = rw c.ok_or.ensures.value (whole_survey c.args.table.now c.args.claim c.opens.ensures.answer c.if-not-opens.false c.survey_slots.result (rw c.number_at.ensures.answer at c.survey_slots.ensures))

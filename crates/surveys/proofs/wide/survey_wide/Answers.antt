@@ -15,4 +15,4 @@ survey_slots_wide-requires c = let s = sized c.args.table.now (opening_length c.
 
 pub returns : goal.returns
 unfolding limit next_in table_of
-returns c = whole_survey_wide c.args.table.now c.args.claim c.opens.ensures.answer c.if-not-opens.false c.survey_slots_wide.result (rw c.number_at.ensures.answer at c.survey_slots_wide.ensures)
+returns c = rw c.ok_or.ensures.value (whole_survey_wide c.args.table.now c.args.claim c.opens.ensures.answer c.if-not-opens.false c.survey_slots_wide.result (rw c.number_at.ensures.answer at c.survey_slots_wide.ensures))
