@@ -3,6 +3,7 @@ use crate::answer::Answer;
 
 pub(crate) const SIZE: usize = 16384;
 
+// An array, and no `ArrayVec`: what stands past the room is shown too.
 #[derive(Drop)]
 pub struct Output {
     pub bytes: [u8; SIZE],

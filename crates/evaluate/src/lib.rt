@@ -4,6 +4,7 @@
 mod asking;
 mod evaluation;
 mod pass;
+mod step;
 mod steps;
 mod tally;
 mod verdict;

@@ -5,14 +5,12 @@ ghost use Rattle.evaluate.specs.Tally.{step_from};
 ghost use Rattle.evaluate.specs.declared.asking.File.{File as FileOf};
 
 use crate::asking::{Caller, File, is_in_group};
+use crate::step;
 use list::Record;
 use list::kind::{
     ANY_OTHER, FOREIGN_GROUP, FOREIGN_OTHER, FOREIGN_USER, GROUP, GROUP_OBJ, OTHER_OBJ, USER,
     USER_OBJ,
 };
-
-// After all seven: what a record that serves none is given. A number, and no `Option`, since one `<` then passes it over with all later steps.
-const NONE: u8 = 8;
 
 // The step, if the record serves it.
 fn when(test: bool, step: u8) -> u8
@@ -21,7 +19,7 @@ fn when(test: bool, step: u8) -> u8
     if test {
         return step;
     }
-    NONE
+    step::NONE
 }
 
 // For a caller of the default realm: the kinds before user.
@@ -32,15 +30,15 @@ fn step_by_object(groups: &[u32], caller: Caller, file: File, r: Record) -> u8
 {
     let kind = r.kind;
     if kind == USER_OBJ {
-        return when(caller.user == file.owner, 1);
+        return when(caller.user == file.owner, step::OWNER);
     }
     if kind == GROUP_OBJ {
-        return when(is_in_group(caller, groups, file.group), 3);
+        return when(is_in_group(caller, groups, file.group), step::GROUP);
     }
     if kind == OTHER_OBJ {
-        return 4;
+        return step::OTHER;
     }
-    when(kind == ANY_OTHER, 6)
+    when(kind == ANY_OTHER, step::ANY_OTHER)
 }
 
 // For a caller of the default realm. Users and groups, of which lists are long, are asked for first.
@@ -53,12 +51,12 @@ fn step_here(groups: &[u32], caller: Caller, file: File, r: Record) -> u8
         return step_by_object(groups, caller, file, r);
     }
     if kind == USER {
-        return when(r.id == caller.user, 2);
+        return when(r.id == caller.user, step::USER);
     }
     if kind == GROUP {
-        return when(is_in_group(caller, groups, r.id), 3);
+        return when(is_in_group(caller, groups, r.id), step::GROUP);
     }
-    NONE
+    step::NONE
 }
 
 // For a caller of another realm, whatever the file.
@@ -68,18 +66,18 @@ fn step_abroad(groups: &[u32], caller: Caller, r: Record) -> u8
 {
     let kind = r.kind;
     if kind == ANY_OTHER {
-        return 6;
+        return step::ANY_OTHER;
     }
     if r.realm != caller.realm {
-        return NONE;
+        return step::NONE;
     }
     if kind == FOREIGN_USER {
-        return when(r.id == caller.user, 2);
+        return when(r.id == caller.user, step::USER);
     }
     if kind == FOREIGN_GROUP {
-        return when(is_in_group(caller, groups, r.id), 3);
+        return when(is_in_group(caller, groups, r.id), step::GROUP);
     }
-    when(kind == FOREIGN_OTHER, 5)
+    when(kind == FOREIGN_OTHER, step::FOREIGN_OTHER)
 }
 
 pub(crate) fn step_of(home: bool, groups: &[u32], caller: Caller, file: File, r: Record) -> u8

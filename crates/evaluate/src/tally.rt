@@ -3,15 +3,9 @@ ghost use Rattle.std.specs.Prelude.{◌≡◌, ◌<◌};
 ghost use Rattle.list.specs.Checking.{placed};
 ghost use Rattle.evaluate.specs.Tally.{no_tally, tallied, allowed};
 
+use crate::step;
 use list::Record;
 use list::kind::MASK_OBJ;
-
-const OWNER: u8 = 1;
-
-const OTHER: u8 = 4;
-
-// The seventh step, which no record serves.
-const NOTHING: u8 = 7;
 
 // All eight bits: what is left where there is no mask_obj.
 const UNMASKED: u8 = 255;
@@ -31,7 +25,7 @@ pub(crate) fn no_tally() -> Tally
     ensures { result ≡ no_tally }
 {
     Tally {
-        step: NOTHING,
+        step: step::NOTHING,
         rights: 0,
         start: 0,
         size: 0,
@@ -74,7 +68,7 @@ impl Tally {
     pub(crate) fn allowed(self) -> u8
         ensures { (result ≡ allowed self) × (self.rights < 256) }
     {
-        if (self.step == OWNER) | (self.step == OTHER) {
+        if (self.step == step::OWNER) | (self.step == step::OTHER) {
             return self.rights;
         }
         self.rights & self.mask

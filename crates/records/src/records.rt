@@ -18,6 +18,7 @@ pub struct Record {
     pub size: usize,
 }
 
+// What a kind has, and nothing where it has not: one function over three readers would be longer than the three.
 #[tactic(auto, unfolding(words::specs::Realm::zero_realm))]
 fn realm_in(tail: &[u8], width: usize) -> Realm
     ensures { result ≡ (if eqb width 0 then zero_realm else realm_at 1 tail.now) }
