@@ -53,21 +53,20 @@ cut_take (suc i) (suc n) bytes h k =
 
 -- the slots that the loop has passed, each beside those before it
 pub record Clear (bytes : List ℕ) (size : ℕ) (rest : List ℕ) (i : ℕ) : Type 0 where
-  pub header : width ≤ length bytes
   pub slots : Passing (slots_in bytes) size rest
   pub at : i ≡ length slots.passed
   pub so_far : all_apart (map slot_of slots.passed) ≡ true
 
 module _ (bytes : List ℕ) where
-  pub none_clear : {size : ℕ} {rest : List ℕ} {i : ℕ} → width ≤ length bytes → size ≡ width → rest ≡ take (length bytes - width) (drop width bytes) → i ≡ 0 → Clear bytes size rest i
+  pub none_clear : {size : ℕ} {rest : List ℕ} {i : ℕ} → size ≡ width → rest ≡ drop width bytes → i ≡ 0 → Clear bytes size rest i
   unfolding all_apart none_passed
-  none_clear h w r z = record { header = h; slots = none_passed bytes h w r; at = z; so_far = refl }
+  none_clear w r z = record { slots = none_passed bytes w r; at = z; so_far = refl }
 
   module _ {size : ℕ} {rest : List ℕ} {i : ℕ} (c : Clear bytes size rest i) where
     module _ (slot more : List ℕ) (given : (rest ≡ slot ++ more) × (length slot ≡ size)) {j : ℕ} (place : j ≡ i) where
       -- the bytes before it are there
       pub before_ends : width * (j + 1) ≤ length bytes
-      before_ends = omega (arith, c.header, place, c.at, slots_length bytes, ap length c.slots.whole, length-append c.slots.passed (cuts rest))
+      before_ends = omega (arith, place, c.at, slots_length bytes, ap length (at_slot c.slots slot more given), length-append c.slots.passed (slot ∷ cuts more))
 
       passed_before : slots_of (take (width * (j + 1) - width) (drop width bytes)) ≡ map slot_of c.slots.passed
       unfolding slots_of slots_in
@@ -89,7 +88,6 @@ module _ (bytes : List ℕ) where
         pub one_clear : {size' : ℕ} {i' : ℕ} → b ≡ true → size' ≡ size → i' ≡ i + 1 → Clear bytes size' more i'
         unfolding one_passed
         one_clear good w n = record {
-          header = c.header;
           slots = one_passed c.slots slot more given w;
           at = n ∙ omega (arith, c.at, length-append c.slots.passed (slot ∷ []));
           so_far = next ∙ good;

@@ -1,13 +1,13 @@
 // Each token beside those before it.
-ghost use Rattle.std.specs.Prelude.{◌≡◌, ◌≤◌, length};
+ghost use Rattle.std.specs.Prelude.{◌≡◌};
 ghost use Rattle.words.specs.Test.{all_of};
-ghost use Rattle.table.specs.Layout.{width, table_of};
+ghost use Rattle.table.specs.Layout.{table_of};
 ghost use Rattle.table.specs.declared.slot.Slot.TheVariants.{Held};
 ghost use Rattle.audit.specs.Audit.{apart, all_apart, Audits};
 ghost use Rattle.audit.specs.Before.{slots_of};
 
 use claims::{Claim, conflict};
-use table::{Slot, WIDTH, read_slot, well_formed};
+use table::{Slot, WIDTH, after_header, read_slot, well_formed};
 
 // Another number and no conflict.
 #[tactic(auto, unfolding(crate::specs::Audit::apart))]
@@ -52,10 +52,9 @@ fn is_clear(before: &[u8], slot: Slot) -> bool
 }
 
 fn all_clear(table: &[u8]) -> bool
-    requires { width ≤ length table.now }
     ensures { result ≡ all_apart (table_of table.now).slots }
 {
-    for (i, slot) in table[WIDTH..].chunks_exact(WIDTH).enumerate() {
+    for (i, slot) in after_header(table).chunks_exact(WIDTH).enumerate() {
         if !is_clear(&table[WIDTH..WIDTH * (i + 1)], read_slot(slot)) {
             return false;
         }

@@ -84,13 +84,12 @@ impl fmt::Display for Answer {
             Answer::Done => f.write_str("done"),
             Answer::Number(n) => done(f, *n),
             Answer::Needed(rights) => done(f, u64::from(*rights)),
-            Answer::Granted(
-                Granted {
-                    number,
-                    first,
-                    last,
-                },
-            ) => done_with(f, *number, *first, *last),
+            Answer::Granted(Granted { number, range }) => done_with(
+                f,
+                *number,
+                range.first,
+                range.last,
+            ),
             Answer::Rights(
                 Found {
                     rights,

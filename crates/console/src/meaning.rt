@@ -9,6 +9,7 @@ use evaluate::Found;
 use list::read_record;
 use std::fmt::Display;
 use tokens::Granted;
+use widest::Range;
 use words::{Fault, Refusal, number_at};
 
 // The length of an entry of an ask.
@@ -115,8 +116,7 @@ fn mean_answer(command: Command, answer: Answer, list: &[u8], out: &[u8]) {
             Answer::Granted(
                 Granted {
                     number,
-                    first,
-                    last,
+                    range: Range { first, last },
                 },
             ),
         ) => indented(&format_args!("the token has number {number}, bytes {first} to {last}")),

@@ -63,12 +63,8 @@ module _ {list : List ℕ} {plan : Plan} (fits : Fits list plan) (out piece : Li
 
 -- and with nothing in its place
 module _ {list : List ℕ} {plan : Plan} (fits : Fits list plan) (nothing : plan.size ≡ 0) (out : List ℕ) where
-  pub room_without : plan.total ≤ length out → {after : List ℕ} → after ≡ over plan.spot.at (drop (plan.spot.at + plan.spot.size) list) (over 0 (take plan.spot.at list) out) → Writes (splice list plan.spot []) out (Ok plan.total) after
+  pub room_without : plan.total ≤ length out → {after : List ℕ} → after ≡ over (plan.spot.at + plan.size) (drop (plan.spot.at + plan.spot.size) list) (over 0 (take plan.spot.at list) out) → Writes (splice list plan.spot []) out (Ok plan.total) after
   room_without h q =
       let at = plan.spot.at in
       let end = plan.spot.at + plan.spot.size in
-      let here : at ≡ at + plan.size = omega arith in
-      room fits out [] (sym nothing) h
-      (q
-      ∙ ap (λ (i : ℕ). over i (drop end list) (over 0 (take at list) out)) here
-      ∙ ap (over (at + plan.size) (drop end list)) (sym (over_none at (over 0 (take at list) out))))
+      room fits out [] (sym nothing) h (q ∙ ap (over (at + plan.size) (drop end list)) (sym (over_none at (over 0 (take at list) out))))

@@ -87,14 +87,14 @@ impl Told for usize {
 }
 
 impl Told for Granted {
-    ghost meant = { λ g. answer_of (done (g.number ∷ g.first ∷ g.last ∷ [])) };
+    ghost meant = { λ g. answer_of (done (g.number ∷ g.range.first ∷ g.range.last ∷ [])) };
 
     #[tactic(auto, unfolding(crate::specs::Answer::answer_of, crate::specs::Answer::answer_for))]
     fn told(self) -> Answer {
         Answer {
             value: self.number,
-            first: self.first,
-            last: self.last,
+            first: self.range.first,
+            last: self.range.last,
             ..Answer::DONE
         }
     }

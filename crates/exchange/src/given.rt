@@ -119,7 +119,12 @@ impl From<Claim> for claims::Claim {
 }
 
 // Who asks, for which file, and what guards it.
-pub fn access_of<'a, 'g>(list: &'a [u8], groups: &'g [u32], caller: Caller, file: File) -> Access<'a, 'g>
+pub fn access_of<'a, 'g>(
+    list: &'a [u8],
+    groups: &'g [u32],
+    caller: Caller,
+    file: File,
+) -> Access<'a, 'g>
     ensures { Lends list.now groups.now caller file result }
 {
     Access {

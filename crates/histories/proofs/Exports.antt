@@ -232,7 +232,7 @@ module _ {bytes after : List ℕ} {a : Answer} where
     grants_widest_back : GrantsWidest bytes claim access a after → GrantsWidestToken bytes (claim_of claim) access (ranged_by a) after
     unfolding proper shape faults any_of all_of of_grant of_grant_widest within
     grants_widest_back g =
-        let e = result_back of_grant_widest refl refl (λ (r : Granted). r.number ∷ r.first ∷ r.last ∷ []) (λ a. granted a.value a.first a.last) reads_three g.said
+        let e = result_back of_grant_widest refl refl (λ (r : Granted). r.number ∷ r.range.first ∷ r.range.last ∷ []) (λ a. granted a.value a.first a.last) reads_three g.said
         (rw g.outcome.answer (grant_widest_answers (claim_of claim) access bytes g.outcome.first g.outcome.last)) g.answer in
         record { outcome = rw e g.outcome }
 

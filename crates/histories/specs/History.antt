@@ -59,7 +59,7 @@ abbrev pub Ranged : Type 0
 Ranged = Result Granted Refusal
 
 abbrev pub granted : ℕ → ℕ → ℕ → Granted
-granted number first last = record { number = number; first = first; last = last }
+granted number first last = record { number = number; range = record { first = first; last = last } }
 
 -- the table's bytes before and after a call, whatever it answers; ask and audit are lent them to read, so they stay
 unfoldable pub Leaves : Call → List ℕ → List ℕ → Type 0

@@ -46,7 +46,7 @@ abbrev pub TellsNumber : Result ℕ Refusal → Answer → Type 0
 TellsNumber result r = Means (answered (λ n. answer_of (done (n ∷ []))) result) r
 
 abbrev pub TellsRange : Result Granted Refusal → Answer → Type 0
-TellsRange result r = Means (answered (λ g. answer_of (done (g.number ∷ g.first ∷ g.last ∷ []))) result) r
+TellsRange result r = Means (answered (λ g. answer_of (done (g.number ∷ g.range.first ∷ g.range.last ∷ []))) result) r
 
 module _ {r : Answer} where
   pub checks : {list : List ℕ} {result : Result (Unit {0}) Refusal} → TellsDone result r → ChecksList list result → Checks list r
@@ -114,4 +114,4 @@ module _ {list groups : List ℕ} {caller : Caller} {file : File} {access : TheA
           go (subst (λ x. GrantsWidestToken bytes x (access_for list groups caller file) result after) given.answer (subst (λ x. GrantsWidestToken bytes t x result after) judged_by p))
         where
           go : GrantsWidestToken bytes (claim_of claim) (access_for list groups caller file) result after → GrantsWidest bytes claim (access_for list groups caller file) r after
-          go q = record { said = widest_says result; answer = told (λ (g : Granted). g.number ∷ g.first ∷ g.last ∷ []) result said refl; outcome = q.outcome }
+          go q = record { said = widest_says result; answer = told (λ (g : Granted). g.number ∷ g.range.first ∷ g.range.last ∷ []) result said refl; outcome = q.outcome }

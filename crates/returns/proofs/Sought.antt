@@ -3,9 +3,9 @@ use Rattle.std.specs.Prelude.{None, Some, position}
 use mathlib.Core.Path.{◌≡◌, refl, sym, ◌∙◌, ap}
 use mathlib.Core.Bool.{Bool, true, false}
 use mathlib.Core.List.{List, [], ◌∷◌, ◌++◌, map}
-use Prim.Native.Nat.{ℕ, ◌+◌, ◌-◌, ◌≤◌, ◌<◌}
+use Prim.Native.Nat.{ℕ, ◌+◌, ◌<◌}
 use native.Mathlib.Omega.{arith}
-use lib.ListN.{length, take, drop, length-append, length-map}
+use lib.ListN.{length, drop, length-append, length-map}
 use Rattle.words.proofs.Tests.{map_append}
 use Rattle.table.specs.Layout.{width, slot_of, slots_in, table_of}
 use Rattle.table.specs.declared.slot.Slot.{Slot}
@@ -19,9 +19,9 @@ pub record Missed (bytes : List ℕ) (test : Slot → Bool) (size : ℕ) (rest :
   pub none : position test (map slot_of slots.passed) ≡ None
 
 module _ {bytes : List ℕ} (test : Slot → Bool) where
-  pub none_missed : {size : ℕ} {rest : List ℕ} {i : ℕ} → width ≤ length bytes → size ≡ width → rest ≡ take (length bytes - width) (drop width bytes) → i ≡ 0 → Missed bytes test size rest i
+  pub none_missed : {size : ℕ} {rest : List ℕ} {i : ℕ} → size ≡ width → rest ≡ drop width bytes → i ≡ 0 → Missed bytes test size rest i
   unfolding none_passed
-  none_missed h w r z = record { slots = none_passed bytes h w r; at = z; none = refl }
+  none_missed w r z = record { slots = none_passed bytes w r; at = z; none = refl }
 
   module _ {size : ℕ} {rest : List ℕ} {i : ℕ} (so_far : Missed bytes test size rest i) where
     module _ (slot more : List ℕ) (given : (rest ≡ slot ++ more) × (length slot ≡ size)) {b : Bool} {value : Slot} (told : b ≡ test value) (read : value ≡ slot_of slot) where

@@ -8,7 +8,7 @@ ghost use Rattle.returns.specs.Slots.{LosesFrom, Loses};
 
 use claims::{Claim, is_unfit};
 use store::write_slot;
-use table::{LIMIT, Refusal, Slot, WIDTH, read_slot, well_formed};
+use table::{LIMIT, Refusal, Slot, WIDTH, after_header, read_slot, well_formed};
 
 #[tactic(auto, unfolding(crate::specs::Return::is_of))]
 fn is_of(slot: Slot, host: u16, number: u64) -> bool
@@ -25,10 +25,9 @@ fn is_of(slot: Slot, host: u16, number: u64) -> bool
 
 // The lowest slot with the number and host.
 fn find(table: &[u8], host: u16, number: u64) -> Option<usize>
-    requires { width ≤ length table.now }
     ensures { result ≡ position (is_of host number) (table_of table.now).slots }
 {
-    for (i, slot) in table[WIDTH..].chunks_exact(WIDTH).enumerate() {
+    for (i, slot) in after_header(table).chunks_exact(WIDTH).enumerate() {
         if is_of(read_slot(slot), host, number) {
             return Some(i);
         }

@@ -5,11 +5,11 @@ use mathlib.Core.Path.{◌≡◌, refl, sym, ◌∙◌, ap}
 use mathlib.Core.Bool.{Bool, true, false}
 use mathlib.Core.List.{List, [], ◌∷◌, ◌++◌, map}
 use mathlib.Core.Logic.{◌≢◌}
-use Prim.Native.Nat.{ℕ, ◌+◌, ◌-◌, ◌≤◌, ◌<◌}
+use Prim.Native.Nat.{ℕ, ◌+◌, ◌≤◌, ◌<◌}
 use native.Mathlib.Omega.{arith}
 use borrow.Author.Tests.{eqb-false, ne_eqb, not-true}
 use lib.Dec.{eqb}
-use lib.ListN.{length, take, drop, length-append, length-map}
+use lib.ListN.{length, drop, length-append, length-map}
 use Rattle.words.specs.Test.{those}
 use Rattle.words.specs.declared.refusal.Refusal.TheVariants.{NotWellFormed}
 use Rattle.words.proofs.Tests.{map_append, those_few, counted_more}
@@ -41,10 +41,10 @@ pub record Looked (bytes : List ℕ) (claim : Claim) (top next size : ℕ) (rest
   pub saw : Saw (map slot_of checked.slots.passed) claim seen
 
 module _ {bytes : List ℕ} (claim : Claim) (top next : ℕ) where
-  unfoldable pub none_looked : {size : ℕ} {rest : List ℕ} {i : ℕ} → width ≤ length bytes → count bytes ≤ 1024 → size ≡ width → rest ≡ take (length bytes - width) (drop width bytes) → i ≡ 0
+  unfoldable pub none_looked : {size : ℕ} {rest : List ℕ} {i : ℕ} → count bytes ≤ 1024 → size ≡ width → rest ≡ drop width bytes → i ≡ 0
       → Looked bytes claim top next size rest i (record { conflicts = 0; free = None })
   unfolding those none_checked none_passed
-  none_looked h few w r z = record { few = few; checked = none_checked top next h w r; at = z; saw = record { conflicts = refl; free = refl } }
+  none_looked few w r z = record { few = few; checked = none_checked top next w r; at = z; saw = record { conflicts = refl; free = refl } }
 
 module _ {bytes : List ℕ} {claim : Claim} {top next size : ℕ} {rest : List ℕ} {i : ℕ} {seen : Seen} (so_far : Looked bytes claim top next size rest i seen) where
   pub few_conflicts : seen.conflicts ≤ 1024
@@ -118,10 +118,10 @@ pub record LookedWide (bytes : List ℕ) (claim : Claim) (top next size : ℕ) (
   pub narrowed : Narrowed claim (map slot_of looked.checked.slots.passed) range
 
 module _ {bytes : List ℕ} (claim : Claim) (top next : ℕ) where
-  pub none_looked_wide : {size : ℕ} {rest : List ℕ} {i : ℕ} → width ≤ length bytes → count bytes ≤ 1024 → size ≡ width → rest ≡ take (length bytes - width) (drop width bytes) → i ≡ 0
+  pub none_looked_wide : {size : ℕ} {rest : List ℕ} {i : ℕ} → count bytes ≤ 1024 → size ≡ width → rest ≡ drop width bytes → i ≡ 0
       → LookedWide bytes claim top next size rest i (record { conflicts = 0; free = None }) (record { first = 0; last = last_byte })
   unfolding none_looked none_checked none_passed
-  none_looked_wide h few w r z = record { looked = none_looked claim top next h few w r z; narrowed = none_narrowed }
+  none_looked_wide few w r z = record { looked = none_looked claim top next few w r z; narrowed = none_narrowed }
 
 module _ {bytes : List ℕ} {claim : Claim} {top next size : ℕ} {rest : List ℕ} {i : ℕ} {seen : Seen} {range : Range} (so_far : LookedWide bytes claim top next size rest i seen range) where
   module _ (slot more : List ℕ) (given : (rest ≡ slot ++ more) × (length slot ≡ size)) {b : Bool} (told : b ≡ is_slot top next slot) where

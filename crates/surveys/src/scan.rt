@@ -1,11 +1,11 @@
 // Surveying a table for a claim.
-ghost use Rattle.std.specs.Prelude.{◌≤◌, length};
-ghost use Rattle.table.specs.Layout.{width, count};
+ghost use Rattle.std.specs.Prelude.{◌≤◌};
+ghost use Rattle.table.specs.Layout.{count};
 ghost use Rattle.surveys.specs.Survey.{Surveys};
 ghost use Rattle.surveys.specs.Scan.{PassesToken, Passes, SurveysSlots};
 
 use claims::{Claim, conflict};
-use table::{LIMIT, NEXT, Refusal, Slot, WIDTH, is_slot, opens, read_slot};
+use table::{LIMIT, NEXT, Refusal, Slot, WIDTH, after_header, is_slot, opens, read_slot};
 use words::number_at;
 
 // How many tokens conflict, and the lowest free slot.
@@ -48,14 +48,14 @@ fn pass(seen: Seen, i: usize, slot: Slot, claim: Claim) -> Seen
 }
 
 fn survey_slots(table: &[u8], claim: Claim, limit: u16, next: u64) -> Option<Seen>
-    requires { (width ≤ length table.now) × (count table.now ≤ 1024) }
+    requires { count table.now ≤ 1024 }
     ensures { SurveysSlots table.now claim limit next result }
 {
     let mut seen = Seen {
         conflicts: 0,
         free: None,
     };
-    for (i, slot) in table[WIDTH..].chunks_exact(WIDTH).enumerate() {
+    for (i, slot) in after_header(table).chunks_exact(WIDTH).enumerate() {
         if !is_slot(slot, limit, next) {
             return None;
         }

@@ -1,13 +1,13 @@
 // Surveying a table for the widest range, which is found on the way. One loop for both surveys would cost ask and grant.
-ghost use Rattle.std.specs.Prelude.{◌≡◌, true, ◌≤◌, length};
-ghost use Rattle.table.specs.Layout.{width, count};
+ghost use Rattle.std.specs.Prelude.{◌≡◌, true, ◌≤◌};
+ghost use Rattle.table.specs.Layout.{count};
 ghost use Rattle.widest.specs.Widest.{is_rival};
 ghost use Rattle.surveys.specs.Survey.{SurveysWide};
 ghost use Rattle.surveys.specs.Scan.{PassesTokenWide, PassesWide, SurveysSlotsWide};
 
 use crate::scan::{Seen, pass_token};
 use claims::Claim;
-use table::{LIMIT, NEXT, Refusal, Slot, WIDTH, is_slot, opens, read_slot};
+use table::{LIMIT, NEXT, Refusal, Slot, WIDTH, after_header, is_slot, opens, read_slot};
 use widest::{Range, beside, is_rival};
 use words::number_at;
 
@@ -74,7 +74,7 @@ fn pass_wide(seen: Seen, range: Range, i: usize, slot: Slot, claim: Claim) -> Se
 }
 
 fn survey_slots_wide(table: &[u8], claim: Claim, limit: u16, next: u64) -> Option<SeenWide>
-    requires { (width ≤ length table.now) × (count table.now ≤ 1024) }
+    requires { count table.now ≤ 1024 }
     ensures { SurveysSlotsWide table.now claim limit next result }
 {
     let mut seen = Seen {
@@ -82,7 +82,7 @@ fn survey_slots_wide(table: &[u8], claim: Claim, limit: u16, next: u64) -> Optio
         free: None,
     };
     let mut range = Range::ALL;
-    for (i, slot) in table[WIDTH..].chunks_exact(WIDTH).enumerate() {
+    for (i, slot) in after_header(table).chunks_exact(WIDTH).enumerate() {
         if !is_slot(slot, limit, next) {
             return None;
         }

@@ -8,7 +8,7 @@ use lib.Dec.{eqb}
 use lib.ListN.{get_or}
 use Rattle.words.specs.Said.{Said, done, refused}
 use Rattle.words.proofs.Determined.{same_answer}
-use Rattle.table.specs.Layout.{slot_of, slot_says, ReadsSlot}
+use Rattle.table.specs.Layout.{slot_of, slot_says, ReadsSlot, SkipsHeader}
 use Rattle.table.specs.Form.{TellsLength, TellsOpening, TellsSlot, TellsForm}
 use Rattle.table.specs.declared.slot.Slot.{Slot}
 use Rattle.table.specs.declared.slot.Slot.TheVariants.{Free, Held}
@@ -24,6 +24,9 @@ is_slot_determined slot top next r r' p q = p.answer ∙ sym q.answer
 
 pub well_formed_determined : (bytes : List ℕ) (r r' : Bool) → TellsForm bytes r → TellsForm bytes r' → r ≡ r'
 well_formed_determined bytes r r' p q = p.answer ∙ sym q.answer
+
+pub after_header_determined : (bytes r r' : List ℕ) → SkipsHeader bytes r → SkipsHeader bytes r' → r ≡ r'
+after_header_determined bytes r r' p q = p.answer ∙ sym q.answer
 
 -- a slot by its values
 unfoldable slot_with : List ℕ → Slot

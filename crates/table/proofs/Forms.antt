@@ -11,7 +11,6 @@ use Rattle.words.specs.Test.{all_of}
 use Rattle.words.specs.Number.{number_at}
 use Rattle.words.proofs.Tests.{and_left}
 use Rattle.table.specs.Layout.{width, kind_of, claim_of}
-use Rattle.table.proofs.Cuts.{sized}
 use Rattle.table.specs.Form.{is_length, all_zero, is_header, is_token, is_slot, opening}
 
 zero_first : (slot : List ℕ) → kind_of slot ≡ 0 → all_zero slot ≡ all_zero (drop 1 slot)
@@ -52,6 +51,3 @@ module _ (top next : ℕ) (slot : List ℕ) where
 pub opening_length : (bytes : List ℕ) → opening bytes ≡ true → is_length (length bytes) ≡ true
 unfolding opening
 opening_length bytes e = and_left (is_length (length bytes)) (is_header bytes) e
-
-pub opening_wide : (bytes : List ℕ) → opening bytes ≡ true → width ≤ length bytes
-opening_wide bytes e = let s = sized bytes (opening_length bytes e) in omega (arith, s.whole)

@@ -2,8 +2,8 @@
 use mathlib.Core.Path.{◌≡◌, refl, sym, ◌∙◌, ap}
 use mathlib.Core.Bool.{Bool, true, false}
 use mathlib.Core.List.{List, [], ◌∷◌, ◌++◌}
-use Prim.Native.Nat.{ℕ, ◌-◌, ◌≤◌, ◌<◌}
-use lib.ListN.{length, take, drop}
+use Prim.Native.Nat.{ℕ, ◌<◌}
+use lib.ListN.{length, drop}
 use Rattle.words.specs.Test.{all_of}
 use Rattle.words.proofs.Tests.{all_append, and_both}
 use Rattle.table.specs.Layout.{width, slots_in}
@@ -16,9 +16,9 @@ pub record Checked (bytes : List ℕ) (top next size : ℕ) (rest : List ℕ) : 
   pub good : all_of (is_slot top next) slots.passed ≡ true
 
 module _ {bytes : List ℕ} (top next : ℕ) where
-  unfoldable pub none_checked : {size : ℕ} {rest : List ℕ} → width ≤ length bytes → size ≡ width → rest ≡ take (length bytes - width) (drop width bytes) → Checked bytes top next size rest
+  unfoldable pub none_checked : {size : ℕ} {rest : List ℕ} → size ≡ width → rest ≡ drop width bytes → Checked bytes top next size rest
   unfolding all_of none_passed
-  none_checked h w e = record { slots = none_passed bytes h w e; good = refl }
+  none_checked w e = record { slots = none_passed bytes w e; good = refl }
 
 module _ {bytes : List ℕ} {top next size : ℕ} {rest : List ℕ} (so_far : Checked bytes top next size rest) where
   module _ (slot more : List ℕ) (given : (rest ≡ slot ++ more) × (length slot ≡ size)) {b : Bool} (told : b ≡ is_slot top next slot) where

@@ -1,11 +1,24 @@
 -- A loop over the slots of a table: those that it has passed, and those that are left of the bytes. Assumes nothing.
+use Rattle.std.specs.Prelude.{Option, None, Some, MatchOption, slice_range}
+use Rattle.std.specs.Option.{unwrap_or}
+use denote.Bor.{Bor}
 use mathlib.Core.Path.{◌≡◌, refl, sym, ◌∙◌, ap}
 use mathlib.Core.List.{List, [], ◌∷◌, ◌++◌, append_assoc, append-nil}
-use Prim.Native.Nat.{ℕ, suc, ◌-◌, ◌/◌, ◌≤◌, ◌<◌}
+use mathlib.Core.Logic.{◌⊎◌, inl, inr}
+use Prim.Native.Nat.{ℕ, suc, ◌+◌, ◌-◌, ◌/◌, ◌≤◌, ◌<◌}
 use native.Mathlib.Omega.{arith}
-use lib.ListN.{length, take, drop, length-append, length-drop}
+use lib.ListN.{length, drop, length-append, length-drop, drop_of_length-le}
 use lib.Seq.{take_all, take_at, drop_at}
 use Rattle.table.specs.Layout.{width, cut, count, slots_in}
+
+-- what `get` found after the header, or nothing
+pub header_skipped : (bytes : List ℕ) (found : Option (Bor (List ℕ))) (none : Bor (List ℕ)) → none.now ≡ []
+    → MatchOption found ((length bytes < width) ⊎ (length bytes < length bytes)) (λ x.
+    (width ≤ length bytes) × (length bytes ≤ length bytes) × (x.now ≡ slice_range bytes width (length bytes)) × (length x.now + width ≡ length bytes))
+    → (unwrap_or found none).now ≡ drop width bytes
+header_skipped bytes (Some x) none e h = h.2 ∙ take_all (length bytes - width) (drop width bytes) (omega (arith, length-drop width bytes))
+header_skipped bytes None none e (inl h) = e ∙ sym (drop_of_length-le bytes {i = width} (omega arith))
+header_skipped bytes None none e (inr h) = absurd (omega arith)
 
 -- the slots of what is left
 unfoldable pub cuts : List ℕ → List (List ℕ)
@@ -27,14 +40,11 @@ pub record Passing (all : List (List ℕ)) (size : ℕ) (rest : List ℕ) : Type
 unfoldable pub none_of : (bytes : List ℕ) {size : ℕ} {rest : List ℕ} → size ≡ width → rest ≡ bytes → Passing (cuts bytes) size rest
 none_of bytes wide e = record { passed = []; wide = wide; whole = ap cuts (sym e) }
 
-unfoldable pub none_passed : (bytes : List ℕ) → width ≤ length bytes → {size : ℕ} {rest : List ℕ} → size ≡ width → rest ≡ take (length bytes - width) (drop width bytes)
-    → Passing (slots_in bytes) size rest
+unfoldable pub none_passed : (bytes : List ℕ) {size : ℕ} {rest : List ℕ} → size ≡ width → rest ≡ drop width bytes → Passing (slots_in bytes) size rest
 unfolding slots_in cuts
-none_passed bytes h {size} {rest} wide e =
-    let l : length (drop width bytes) ≡ length bytes - width = length-drop width bytes in
-    let all : rest ≡ drop width bytes = e ∙ take_all (length bytes - width) (drop width bytes) (omega (arith, l)) in
-    let n : length (drop width bytes) / width ≡ count bytes = rw l (omega arith) in
-    record { passed = []; wide = wide; whole = rw (all, n) refl }
+none_passed bytes wide e =
+    let n : length (drop width bytes) / width ≡ count bytes = rw (length-drop width bytes) (omega arith) in
+    record { passed = []; wide = wide; whole = rw (e, n) refl }
 
 module _ {all : List (List ℕ)} {size : ℕ} {rest : List ℕ} (p : Passing all size rest) where
   module _ (slot more : List ℕ) (next : (rest ≡ slot ++ more) × (length slot ≡ size)) where

@@ -95,6 +95,10 @@ slot_says (Held number claim) =
 pub record ReadsSlot (slot : List ℕ) (r : Slot) : Type 0 where
   pub answer : slot_says r ≡ slot_says (slot_of slot)
 
+-- skipping the header
+pub record SkipsHeader (bytes r : List ℕ) : Type 0 where
+  pub answer : r ≡ drop width bytes
+
 -- writing a slot
 pub record WritesSlot (value : Slot) (slot after : List ℕ) : Type 0 where
   pub slot_after : after ≡ written 0 (slot_bytes value) slot

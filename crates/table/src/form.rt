@@ -5,7 +5,7 @@ ghost use Rattle.words.specs.Number.{part};
 ghost use Rattle.table.specs.Layout.{width, slots_in};
 ghost use Rattle.table.specs.Form.{is_length, all_zero, is_token, is_slot, TellsLength, TellsOpening, TellsSlot, TellsForm};
 
-use crate::slot::{kind_of, read_claim};
+use crate::slot::{after_header, kind_of, read_claim};
 use crate::{LIMIT, NEXT, WIDTH};
 use claims::{Claim, is_malformed};
 use words::number_at;
@@ -82,10 +82,9 @@ pub fn is_slot(slot: &[u8], limit: u16, next: u64) -> bool
 }
 
 fn are_slots(table: &[u8], limit: u16, next: u64) -> bool
-    requires { width ≤ length table.now }
     ensures { result ≡ all_of (is_slot limit next) (slots_in table.now) }
 {
-    for slot in table[WIDTH..].chunks_exact(WIDTH) {
+    for slot in after_header(table).chunks_exact(WIDTH) {
         if !is_slot(slot, limit, next) {
             return false;
         }

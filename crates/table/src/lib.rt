@@ -5,7 +5,7 @@ mod form;
 mod slot;
 
 pub use form::{is_length, is_slot, opens, well_formed};
-pub use slot::{Slot, read_slot};
+pub use slot::{Slot, after_header, read_slot};
 pub use words::Refusal;
 
 // A slot takes so many bytes, and so does the header.

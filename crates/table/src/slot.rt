@@ -1,7 +1,8 @@
 // One slot of a table: free, or held by a token.
 ghost use Rattle.std.specs.Prelude.{◌≡◌};
-ghost use Rattle.table.specs.Layout.{kind_of, claim_of, ReadsSlot};
+ghost use Rattle.table.specs.Layout.{kind_of, claim_of, ReadsSlot, SkipsHeader};
 
+use crate::WIDTH;
 use claims::{Claim, FileId};
 use words::number_at;
 
@@ -10,6 +11,13 @@ use words::number_at;
 pub enum Slot {
     Free,
     Held { number: u64, claim: Claim },
+}
+
+// The bytes after the header; none where the table is shorter.
+pub fn after_header(table: &[u8]) -> &[u8]
+    ensures { SkipsHeader table.now result.now }
+{
+    table.get(WIDTH..).unwrap_or(&[])
 }
 
 // A slot's first byte; 0 where it has none.

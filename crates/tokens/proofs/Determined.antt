@@ -31,11 +31,11 @@ widened_determined says bytes claim said said' after after' p q = go (says_of sa
 
 -- what a widest grant answers, read back
 unfoldable given_back : List ℕ → Granted
-given_back values = record { number = get_or values 0 0; first = get_or values 1 0; last = get_or values 2 0 }
+given_back values = record { number = get_or values 0 0; range = record { first = get_or values 1 0; last = get_or values 2 0 } }
 
 pub same_widest : {said : Said} (r r' : Result Granted Refusal) → widest_says r ≡ said → widest_says r' ≡ said → r ≡ r'
 unfolding given_back
-same_widest = same_says (λ granted. granted.number ∷ granted.first ∷ granted.last ∷ []) given_back (λ granted. refl)
+same_widest = same_says (λ granted. granted.number ∷ granted.range.first ∷ granted.range.last ∷ []) given_back (λ granted. refl)
 
 module _ (bytes : List ℕ) (after after' : List ℕ) where
   pub grant_determined : (r r' : Result ℕ Refusal) (claim : Claim) → Grants bytes claim r after → Grants bytes claim r' after' → (r ≡ r') × (after ≡ after')

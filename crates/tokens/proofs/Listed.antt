@@ -3,11 +3,11 @@ use Rattle.std.specs.Prelude.{if◌then◌else◌}
 use mathlib.Core.Path.{◌≡◌, refl, sym, ◌∙◌, ap}
 use mathlib.Core.Bool.{Bool, true, false, cond}
 use mathlib.Core.List.{List, [], ◌∷◌, ◌++◌, map, append_assoc, append-nil}
-use Prim.Native.Nat.{ℕ, ◌+◌, ◌-◌, ◌*◌, ◌≤◌, ◌<◌}
+use Prim.Native.Nat.{ℕ, ◌+◌, ◌*◌, ◌≤◌, ◌<◌}
 use native.Mathlib.Nat.{zero-add, le_of_eq}
 use native.Mathlib.Omega.{arith}
 use borrow.Author.Tests.{ne_eqb}
-use lib.ListN.{length, take, drop, set, length-append}
+use lib.ListN.{length, drop, set, length-append}
 use Rattle.words.specs.Test.{those}
 use Rattle.words.specs.Writing.{digits, over, written}
 use Rattle.words.proofs.Tests.{Each, differ, map_append, those_append, those_pass}
@@ -118,11 +118,11 @@ pub record Noted (bytes : List ℕ) (claim : Claim) (out₀ out : List ℕ) (end
   pub noted : out ≡ over 0 (entries claim (map slot_of slots.passed)) out₀
 
 module _ (bytes : List ℕ) (claim : Claim) (out₀ : List ℕ) (end : ℕ) where
-  pub none_noted : {size : ℕ} {rest : List ℕ} → width ≤ length bytes → end ≡ length (list_for claim (table_of bytes)) → end ≤ length out₀ → size ≡ width → rest ≡ take (length bytes - width) (drop width bytes)
+  pub none_noted : {size : ℕ} {rest : List ℕ} → end ≡ length (list_for claim (table_of bytes)) → end ≤ length out₀ → size ≡ width → rest ≡ drop width bytes
       → Noted bytes claim out₀ out₀ end 0 size rest
   unfolding entries those joined none_passed
-  none_noted h whole room w r = record {
-    slots = none_passed bytes h w r;
+  none_noted whole room w r = record {
+    slots = none_passed bytes w r;
     same = refl;
     room = room;
     whole = whole;

@@ -77,7 +77,7 @@ module _ (bytes : List ℕ) (claim : Claim) where
 
   pub widest_so : says_of (grant_says claim) bytes ≡ done ((table_of bytes).next ∷ []) → Bytes bytes → claim.last ≤ last_byte → (range : Range) → over claim range ≡ widened claim (table_of bytes)
       → {wide : Claim} → Ranges claim range wide → {r : ℕ} {after : List ℕ} → Issues bytes wide r after
-      → GrantsWidest bytes claim (Ok (record { number = r; first = range.first; last = range.last })) after
+      → GrantsWidest bytes claim (Ok (record { number = r; range = range })) after
   unfolding says_by with_more
   widest_so e all ends range found ranged i =
       let well = done_formed bytes claim e in

@@ -28,7 +28,7 @@ pub record Widened (says : Table → Said) (bytes : List ℕ) (claim : Claim) (s
 
 -- the number, first and last byte
 abbrev pub widest_says : Result Granted Refusal → Said
-widest_says = says_by (λ granted. granted.number ∷ granted.first ∷ granted.last ∷ [])
+widest_says = says_by (λ granted. granted.number ∷ granted.range.first ∷ granted.range.last ∷ [])
 
 -- granting a token with the widest range
 pub record GrantsWidest (bytes : List ℕ) (claim : Claim) (r : Result Granted Refusal) (after : List ℕ) : Type 0 where

@@ -1,14 +1,14 @@
 // Asking what is in the way of a request.
 ghost use Rattle.std.specs.Prelude.{◌≡◌, ◌+◌, ◌≤◌, length};
 ghost use Rattle.words.specs.Writing.{over};
-ghost use Rattle.table.specs.Layout.{width, table_of};
+ghost use Rattle.table.specs.Layout.{table_of};
 ghost use Rattle.table.specs.declared.slot.Slot.TheVariants.{Held};
 ghost use Rattle.tokens.specs.Ask.{entry_bytes, list_for, Asks};
 ghost use Rattle.tokens.specs.Scan.{Lists};
 
 use claims::{Claim, conflict, is_malformed};
 use surveys::{Seen, survey};
-use table::{LIMIT, Refusal, Slot, WIDTH, read_slot};
+use table::{LIMIT, Refusal, Slot, WIDTH, after_header, read_slot};
 use writes::write_number;
 
 // An entry takes so many bytes.
@@ -52,11 +52,11 @@ fn list_slot(out: &mut [u8], at: usize, slot: Slot, claim: Claim) -> usize
 
 // All entries, up to the last one's end.
 fn list_all(table: &[u8], claim: Claim, out: &mut [u8], end: usize)
-    requires { (width ≤ length table.now) × (end ≡ length (list_for claim (table_of table.now))) × (end ≤ length out.old) }
+    requires { (end ≡ length (list_for claim (table_of table.now))) × (end ≤ length out.old) }
     ensures { out.new ≡ over 0 (list_for claim (table_of table.now)) out.old }
 {
     let mut at = 0;
-    for slot in table[WIDTH..].chunks_exact(WIDTH) {
+    for slot in after_header(table).chunks_exact(WIDTH) {
         if at == end {
             break;
         }

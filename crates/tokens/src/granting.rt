@@ -11,7 +11,7 @@ use claims::{Claim, is_malformed};
 use store::write_slot;
 use surveys::{Seen, SeenWide, survey, survey_wide};
 use table::{LIMIT, NEXT, Refusal, Slot, WIDTH};
-use widest::with_range;
+use widest::{Range, with_range};
 use words::number_at;
 use writes::write_number;
 
@@ -22,8 +22,7 @@ const LAST_NUMBER: u64 = u64::MAX;
 #[derive(Clone, Copy)]
 pub struct Granted {
     pub number: u64,
-    pub first: u64,
-    pub last: u64,
+    pub range: Range,
 }
 
 // The free slot that a grant takes, or its refusal, in the order of the paper.
@@ -80,9 +79,5 @@ pub fn grant_widest(table: &mut [u8], claim: Claim) -> Result<Granted, Refusal>
     let SeenWide { seen, range } = survey_wide(table, claim)?;
     let free = check(table, seen, claim)?;
     let number = issue(table, free, with_range(claim, range));
-    Ok(Granted {
-        number,
-        first: range.first,
-        last: range.last,
-    })
+    Ok(Granted { number, range })
 }

@@ -3,9 +3,9 @@ use mathlib.Core.Path.{◌≡◌, sym, ◌∙◌, ap}
 use mathlib.Core.Bool.{Bool}
 use mathlib.Core.List.{List}
 use Prim.Native.Nat.{ℕ}
-use Rattle.std.specs.Prelude.{Option}
+use Rattle.std.specs.Prelude.{Option, nat_eq, ◌&&◌}
 use Rattle.words.specs.Number.{TellsWithin, ReadsNumber}
-use Rattle.words.specs.Realm.{ReadsRealm, TellsRealms, TellsUnknown}
+use Rattle.words.specs.Realm.{ReadsRealm, TellsRealms, TellsUnknown, same_realm}
 use Rattle.words.specs.Refusal.{TellsNumber, TellsValue}
 use Rattle.words.specs.declared.realm.Realm.{Realm}
 use Rattle.words.specs.declared.refusal.Refusal.{Refusal}
@@ -18,12 +18,17 @@ same_answer saying back inverse r r' p q = sym (inverse r) ∙ ap back (p ∙ sy
 pub holds_determined : (width : ℕ) (bytes : List ℕ) (at : ℕ) (r r' : Bool) → TellsWithin width bytes at r → TellsWithin width bytes at r' → r ≡ r'
 holds_determined width bytes at r r' p q = p.answer ∙ sym q.answer
 
--- number16, number32 and number64
+-- of every width
 pub number_determined : (width : ℕ) (bytes : List ℕ) (at r r' : ℕ) → ReadsNumber width bytes at r → ReadsNumber width bytes at r' → r ≡ r'
 number_determined width bytes at r r' p q = p.answer ∙ sym q.answer
 
 pub realm_at_determined : (bytes : List ℕ) (at : ℕ) (r r' : Realm) → ReadsRealm bytes at r → ReadsRealm bytes at r' → r ≡ r'
 realm_at_determined bytes at r r' p q = p.answer ∙ sym q.answer
+
+-- what the derived `==` of realms answers
+pub equal_tells : (a b : Realm) (r : Bool) → r ≡ (nat_eq a.hi b.hi && nat_eq a.lo b.lo) → TellsRealms a b r
+unfolding same_realm
+equal_tells a b r e = record { answer = e }
 
 pub same_realm_determined : (a b : Realm) (r r' : Bool) → TellsRealms a b r → TellsRealms a b r' → r ≡ r'
 same_realm_determined a b r r' p q = p.answer ∙ sym q.answer

@@ -6,7 +6,7 @@ use Rattle.words.specs.Writing.{WritesNumber}
 use Rattle.words.specs.Realm.{WritesRealm}
 use Rattle.words.specs.declared.realm.Realm.{Realm}
 
--- write_number16, write_number32 and write_number64
+-- of every width
 pub write_number_determined : (width n : ℕ) (bytes : List ℕ) (at : ℕ) (after after' : List ℕ)
     → WritesNumber width n bytes at after → WritesNumber width n bytes at after' → after ≡ after'
 write_number_determined width n bytes at after after' p q = p.bytes_after ∙ sym q.bytes_after

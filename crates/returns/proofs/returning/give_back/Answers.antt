@@ -1,6 +1,4 @@
 use mathlib.Core.Path.{sym, ◌∙◌}
-use native.Mathlib.Omega.{arith}
-use Rattle.table.proofs.Tables.{form_size}
 use Rattle.returns.proofs.Returned.{ill_formed, misshapen, types_few, no_such_token, inside, loses_there}
 use Rattle.returns.proofs.returning.give_back.Goals as goal
 
@@ -9,9 +7,6 @@ returns-then-not-well_formed c = ill_formed c.args.table.now c.args.host c.args.
 
 pub returns-then-is_unfit : goal.returns-then-is_unfit
 returns-then-is_unfit c = misshapen c.args.table.now c.args.host c.args.number c.args.types (sym c.well_formed-2.ensures.answer ∙ c.if-not-well_formed.false) c.is_unfit.ensures.answer c.if-is_unfit.true
-
-pub find-requires : goal.find-requires
-find-requires c = let w = (form_size c.args.table.now (sym c.well_formed-2.ensures.answer ∙ c.if-not-well_formed.false)).whole in omega arith
 
 pub returns-in_default : goal.returns-in_default
 returns-in_default c =

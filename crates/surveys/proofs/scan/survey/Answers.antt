@@ -1,5 +1,4 @@
 use mathlib.Core.Path.{sym, ◌∙◌}
-use native.Mathlib.Omega.{arith}
 use Rattle.table.specs.Table.{limit}
 use Rattle.table.specs.Layout.{next_in, table_of}
 use Rattle.table.proofs.Cuts.{sized}
@@ -11,7 +10,7 @@ pub returns-then-not-opens : goal.returns-then-not-opens
 returns-then-not-opens c = no_survey c.args.table.now c.args.claim c.opens.ensures.answer c.if-not-opens.true
 
 pub survey_slots-requires : goal.survey_slots-requires
-survey_slots-requires c = let s = sized c.args.table.now (opening_length c.args.table.now (sym c.opens.ensures.answer ∙ c.if-not-opens.false)) in (omega (arith, s.whole), s.few)
+survey_slots-requires c = (sized c.args.table.now (opening_length c.args.table.now (sym c.opens.ensures.answer ∙ c.if-not-opens.false))).few
 
 pub returns : goal.returns
 unfolding limit next_in table_of

@@ -1,4 +1,4 @@
-use mathlib.Core.Path.{refl}
+use mathlib.Core.Path.{refl, ◌∙◌}
 use Rattle.table.proofs.Determined.{slot_is}
 use Rattle.surveys.proofs.Surveyed.{none_looked_wide, few_conflicts, one_looked_wide, ill_looked_wide, all_looked_wide}
 use Rattle.surveys.proofs.wide.survey_slots_wide.Goals as goal
@@ -6,7 +6,7 @@ use Rattle.surveys.proofs.wide.survey_slots_wide.Goals as goal
 pub loop-i-init : goal.loop-i-init
 loop-i-init c =
     rw (c.into_iter-i-iterator.ensures.into_iter_gives, c.enumerate-i-items.ensures.source, c.enumerate-i-items.ensures.count)
-    (none_looked_wide c.args.claim c.args.limit c.args.next c.requires.0 c.requires.1 c.chunks_exact.ensures.size c.chunks_exact.ensures.rest refl)
+    (none_looked_wide c.args.claim c.args.limit c.args.next c.requires c.chunks_exact.ensures.size (c.chunks_exact.ensures.rest ∙ c.after_header.ensures.answer) refl)
 
 pub returns-then-not-is_slot : goal.returns-then-not-is_slot
 returns-then-not-is_slot c = ill_looked_wide c.loop-i.invariant _ _ c.in-Some.ensures.steps.0.1 c.is_slot.ensures.answer c.if-not-is_slot.true

@@ -1,17 +1,11 @@
-use mathlib.Core.Path.{sym, ◌∙◌}
 use Rattle.table.specs.Table.{limit}
 use Rattle.table.specs.Layout.{next_in, table_of}
 use Rattle.table.specs.Form.{well_formed}
-use Rattle.table.proofs.Forms.{opening_wide}
 use Rattle.table.proofs.form.well_formed.Goals as goal
 
 pub returns-then-not-opens : goal.returns-then-not-opens
 unfolding well_formed limit next_in table_of
 returns-then-not-opens c = record { answer = simp (← c.opens.ensures.answer, c.if-not-opens.true) }
-
-pub are_slots-requires : goal.are_slots-requires
-unfolding well_formed limit next_in table_of
-are_slots-requires c = opening_wide c.args.table.now (sym c.opens.ensures.answer ∙ c.if-not-opens.false)
 
 pub returns : goal.returns
 unfolding well_formed limit next_in table_of

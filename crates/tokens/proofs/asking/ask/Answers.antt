@@ -1,7 +1,6 @@
 use native.Mathlib.Omega.{arith}
 use borrow.Author.Rules.{rules}
 use Rattle.table.proofs.Calls.{ill_refused}
-use Rattle.table.proofs.Tables.{form_size}
 use Rattle.tokens.specs.Ask.{ask_says}
 use Rattle.tokens.proofs.Asked.{refused_so, misshapen, few_entries, list_end, too_short, all_listed}
 use Rattle.tokens.proofs.asking.ask.Goals as goal
@@ -26,8 +25,7 @@ returns-then-out-end c =
 pub list_all-requires : goal.list_all-requires
 list_all-requires c =
     let s = c.in_ok-conflicts.ensures.saw in
-    let w = (form_size c.args.table.now s.0).whole in
-    (omega (arith, w), list_end c.args.table.now c.args.claim c.args.out.now s.0 c.is_malformed.ensures.answer c.if-is_malformed.false s.1, c.if-out-end.false)
+    (list_end c.args.table.now c.args.claim c.args.out.now s.0 c.is_malformed.ensures.answer c.if-is_malformed.false s.1, c.if-out-end.false)
 
 pub returns : goal.returns
 returns c =
