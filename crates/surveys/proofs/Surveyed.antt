@@ -90,43 +90,43 @@ module _ {bytes : List ℕ} {claim : Claim} {top next size : ℕ} {rest : List �
   }
 
 -- a token that is no rival changes nothing, and one that is leaves a side of the range
-module _ (seen : Seen) (range : Range) (held claim : Claim) where
-  pub no_rival_passed : claim.last ≤ last_byte → is_rival claim held ≡ false → PassesTokenWide seen range held claim (record { seen = seen; range = range })
+module _ (told : SeenWide) (held claim : Claim) where
+  pub no_rival_passed : claim.last ≤ last_byte → is_rival claim held ≡ false → PassesTokenWide told held claim told
   no_rival_passed top e = record {
     passes = record { conflicts = rw (no_rival held claim e claim.first claim.last top) refl; free = refl };
     leaves = rw e refl;
   }
 
   pub rival_meets : is_rival claim held ≡ true → claim.first ≤ held.last → held.first ≤ claim.last
-      → PassesTokenWide seen range held claim (record { seen = record { conflicts = seen.conflicts + 1; free = seen.free }; range = range })
+      → PassesTokenWide told held claim (record { seen = record { conflicts = told.seen.conflicts + 1; free = told.seen.free }; range = told.range })
   unfolding is_rival
   rival_meets e p q =
       let rival : conflict held (with_range claim 0 last_byte) ≢ 0 = eqb-false (conflict held (with_range claim 0 last_byte)) 0 (not-true (eqb (conflict held (with_range claim 0 last_byte)) 0) e) in
       let way : conflict held claim ≢ 0 = λ none. elsewhere held claim 0 last_byte claim.first claim.last rival none q p in
       record {
         passes = record { conflicts = rw (ne_eqb (conflict held claim) 0 way) refl; free = refl };
-        leaves = across_it claim held (over claim range) p q ∙ rw e refl;
+        leaves = across_it claim held (over claim told.range) p q ∙ rw e refl;
       }
 
-  pub rival_passed : is_rival claim held ≡ true → {told : Seen} {left : Range} → PassesToken seen held claim told → Leaves claim range held left
-      → PassesTokenWide seen range held claim (record { seen = told; range = left })
+  pub rival_passed : is_rival claim held ≡ true → {seen : Seen} {left : Range} → PassesToken told.seen held claim seen → Leaves claim told.range held left
+      → PassesTokenWide told held claim (record { seen = seen; range = left })
   rival_passed e p l = record { passes = p; leaves = l.answer ∙ rw e refl }
 
 -- and what range they leave
-pub record LookedWide (bytes : List ℕ) (claim : Claim) (top next size : ℕ) (rest : List ℕ) (i : ℕ) (seen : Seen) (range : Range) : Type 0 where
-  pub looked : Looked bytes claim top next size rest i seen
-  pub narrowed : Narrowed claim (map slot_of looked.checked.slots.passed) range
+pub record LookedWide (bytes : List ℕ) (claim : Claim) (top next size : ℕ) (rest : List ℕ) (i : ℕ) (told : SeenWide) : Type 0 where
+  pub looked : Looked bytes claim top next size rest i told.seen
+  pub narrowed : Narrowed claim (map slot_of looked.checked.slots.passed) told.range
 
 module _ {bytes : List ℕ} (claim : Claim) (top next : ℕ) where
   pub none_looked_wide : {size : ℕ} {rest : List ℕ} {i : ℕ} → count bytes ≤ 1024 → size ≡ width → rest ≡ drop width bytes → i ≡ 0
-      → LookedWide bytes claim top next size rest i (record { conflicts = 0; free = None }) (record { first = 0; last = last_byte })
+      → LookedWide bytes claim top next size rest i (record { seen = record { conflicts = 0; free = None }; range = record { first = 0; last = last_byte } })
   unfolding none_looked none_checked none_passed
   none_looked_wide few w r z = record { looked = none_looked claim top next few w r z; narrowed = none_narrowed }
 
-module _ {bytes : List ℕ} {claim : Claim} {top next size : ℕ} {rest : List ℕ} {i : ℕ} {seen : Seen} {range : Range} (so_far : LookedWide bytes claim top next size rest i seen range) where
+module _ {bytes : List ℕ} {claim : Claim} {top next size : ℕ} {rest : List ℕ} {i : ℕ} {seen : SeenWide} (so_far : LookedWide bytes claim top next size rest i seen) where
   module _ (slot more : List ℕ) (given : (rest ≡ slot ++ more) × (length slot ≡ size)) {b : Bool} (told : b ≡ is_slot top next slot) where
-    pub one_looked_wide : {value : Slot} {r : SeenWide} {size' : ℕ} {i' : ℕ} → b ≡ true → size' ≡ size → i' ≡ i + 1 → value ≡ slot_of slot → PassesWide seen range i value claim r
-        → LookedWide bytes claim top next size' more i' r.seen r.range
+    pub one_looked_wide : {value : Slot} {r : SeenWide} {size' : ℕ} {i' : ℕ} → b ≡ true → size' ≡ size → i' ≡ i + 1 → value ≡ slot_of slot → PassesWide seen i value claim r
+        → LookedWide bytes claim top next size' more i' r
     unfolding one_looked one_checked one_passed
     one_looked_wide {value} {r} good w n read p = record {
       looked = one_looked so_far.looked slot more given told good w n read p.passes;
@@ -139,7 +139,7 @@ module _ {bytes : List ℕ} {claim : Claim} {top next size : ℕ} {rest : List �
     pub ill_looked_wide : b ≡ false → SurveysSlotsWide bytes claim top next None
     ill_looked_wide bad = record { saw = tt; ill = (ill_looked so_far.looked slot more given told bad).ill }
 
-  pub all_looked_wide : length rest < size → SurveysSlotsWide bytes claim top next (Some (record { seen = seen; range = range }))
+  pub all_looked_wide : length rest < size → SurveysSlotsWide bytes claim top next (Some seen)
   unfolding table_of widened
   all_looked_wide h =
       let s = (all_looked so_far.looked h).saw in

@@ -9,7 +9,6 @@ use Rattle.table.specs.Layout.{slots_in, table_of}
 use Rattle.table.specs.Form.{is_slot}
 use Rattle.table.specs.declared.slot.Slot.{Slot}
 use Rattle.widest.specs.Widest.{is_rival, beside, narrowed, widened, over}
-use Rattle.widest.specs.declared.range.Range.{Range}
 use Rattle.surveys.specs.Survey.{Saw}
 use Rattle.surveys.specs.declared.scan.Seen.{Seen}
 use Rattle.surveys.specs.declared.wide.SeenWide.{SeenWide}
@@ -28,13 +27,13 @@ pub record SurveysSlots (bytes : List ℕ) (claim : Claim) (top next : ℕ) (r :
   pub ill : IfNone r (all_of (is_slot top next) (slots_in bytes) ≡ false)
 
 -- the same, and the range that the tokens leave
-pub record PassesTokenWide (seen : Seen) (range : Range) (held claim : Claim) (r : SeenWide) : Type 0 where
-  pub passes : PassesToken seen held claim r.seen
-  pub leaves : over claim r.range ≡ (if is_rival claim held then beside claim (over claim range) held else over claim range)
+pub record PassesTokenWide (told : SeenWide) (held claim : Claim) (r : SeenWide) : Type 0 where
+  pub passes : PassesToken told.seen held claim r.seen
+  pub leaves : over claim r.range ≡ (if is_rival claim held then beside claim (over claim told.range) held else over claim told.range)
 
-pub record PassesWide (seen : Seen) (range : Range) (i : ℕ) (slot : Slot) (claim : Claim) (r : SeenWide) : Type 0 where
-  pub passes : Passes seen i slot claim r.seen
-  pub leaves : over claim r.range ≡ narrowed claim (over claim range) slot
+pub record PassesWide (told : SeenWide) (i : ℕ) (slot : Slot) (claim : Claim) (r : SeenWide) : Type 0 where
+  pub passes : Passes told.seen i slot claim r.seen
+  pub leaves : over claim r.range ≡ narrowed claim (over claim told.range) slot
 
 pub record SurveysSlotsWide (bytes : List ℕ) (claim : Claim) (top next : ℕ) (r : Option SeenWide) : Type 0 where
   pub saw : IfSome r (λ told. (all_of (is_slot top next) (slots_in bytes) ≡ true) × Saw (table_of bytes).slots claim told.seen × (over claim told.range ≡ widened claim (table_of bytes)))

@@ -19,57 +19,57 @@ pub struct SeenWide {
 }
 
 // A rival's slot more, where it has no byte in common with the claim.
-fn pass_beside(seen: Seen, range: Range, held: Claim, claim: Claim) -> SeenWide
-    requires { (seen.conflicts ≤ 1024) × (is_rival claim held ≡ true) }
-    ensures { PassesTokenWide seen range held claim result }
+fn pass_beside(told: SeenWide, held: Claim, claim: Claim) -> SeenWide
+    requires { (told.seen.conflicts ≤ 1024) × (is_rival claim held ≡ true) }
+    ensures { PassesTokenWide told held claim result }
 {
     SeenWide {
-        seen: pass_token(seen, held, claim),
-        range: beside(range, held, claim),
+        seen: pass_token(told.seen, held, claim),
+        range: beside(told.range, held, claim),
     }
 }
 
 // A token's slot more, for the widest range: no rival is in the way, and a rival is where it meets the claim.
-fn pass_token_wide(seen: Seen, range: Range, held: Claim, claim: Claim) -> SeenWide
-    requires { seen.conflicts ≤ 1024 }
-    ensures { PassesTokenWide seen range held claim result }
+fn pass_token_wide(told: SeenWide, held: Claim, claim: Claim) -> SeenWide
+    requires { told.seen.conflicts ≤ 1024 }
+    ensures { PassesTokenWide told held claim result }
 {
     if !is_rival(held, claim) {
-        return SeenWide { seen, range };
+        return told;
     }
     if held.last < claim.first {
-        return pass_beside(seen, range, held, claim);
+        return pass_beside(told, held, claim);
     }
     if claim.last < held.first {
-        return pass_beside(seen, range, held, claim);
+        return pass_beside(told, held, claim);
     }
     SeenWide {
         seen: Seen {
-            conflicts: seen.conflicts + 1,
-            ..seen
+            conflicts: told.seen.conflicts + 1,
+            ..told.seen
         },
-        range,
+        ..told
     }
 }
 
 // One slot more, the one at i, for the widest range.
 #[tactic(auto, unfolding(table::specs::Table::is_free, table::specs::Table::is_in_the_way, widest::specs::Widest::narrowed))]
-fn pass_wide(seen: Seen, range: Range, i: usize, slot: Slot, claim: Claim) -> SeenWide
-    requires { seen.conflicts ≤ 1024 }
-    ensures { PassesWide seen range i slot claim result }
+fn pass_wide(told: SeenWide, i: usize, slot: Slot, claim: Claim) -> SeenWide
+    requires { told.seen.conflicts ≤ 1024 }
+    ensures { PassesWide told i slot claim result }
 {
     match slot {
         Slot::Free => SeenWide {
             seen: Seen {
-                free: seen.free.or(Some(i)),
-                ..seen
+                free: told.seen.free.or(Some(i)),
+                ..told.seen
             },
-            range,
+            ..told
         },
         Slot::Held {
             number: _,
             claim: held,
-        } => pass_token_wide(seen, range, held, claim),
+        } => pass_token_wide(told, held, claim),
     }
 }
 
@@ -77,20 +77,20 @@ fn survey_slots_wide(table: &[u8], claim: Claim, limit: u16, next: u64) -> Optio
     requires { count table.now ≤ 1024 }
     ensures { SurveysSlotsWide table.now claim limit next result }
 {
-    let mut seen = Seen {
-        conflicts: 0,
-        free: None,
+    let mut told = SeenWide {
+        seen: Seen {
+            conflicts: 0,
+            free: None,
+        },
+        range: Range::ALL,
     };
-    let mut range = Range::ALL;
     for (i, slot) in after_header(table).chunks_exact(WIDTH).enumerate() {
         if !is_slot(slot, limit, next) {
             return None;
         }
-        let told = pass_wide(seen, range, i, read_slot(slot), claim);
-        seen = told.seen;
-        range = told.range;
+        told = pass_wide(told, i, read_slot(slot), claim);
     }
-    Some(SeenWide { seen, range })
+    Some(told)
 }
 
 pub fn survey_wide(table: &[u8], claim: Claim) -> Result<SeenWide, Refusal>
