@@ -47,6 +47,8 @@ fn pass(seen: Seen, i: usize, slot: Slot, claim: Claim) -> Seen
     }
 }
 
+// Apart from `survey`, whose refusal would else be carried through the loop: four instructions for each slot.
+#[inline(never)]
 fn survey_slots(table: &[u8], claim: Claim, limit: u16, next: u64) -> Option<Seen>
     requires { count table.now ≤ 1024 }
     ensures { SurveysSlots table.now claim limit next result }
@@ -61,9 +63,7 @@ fn survey_slots(table: &[u8], claim: Claim, limit: u16, next: u64) -> Option<See
         }
         seen = pass(seen, i, read_slot(slot), claim);
     }
-    // Made anew: copied whole into the result, the count is kept in parts through the loop, a tenth slower.
-    let Seen { conflicts, free } = seen;
-    Some(Seen { conflicts, free })
+    Some(seen)
 }
 
 pub fn survey(table: &[u8], claim: Claim) -> Result<Seen, Refusal>
