@@ -4,10 +4,11 @@ use mathlib.Core.Bool.{Bool}
 use mathlib.Core.List.{List}
 use Prim.Native.Nat.{ℕ}
 use Rattle.std.specs.Prelude.{Option, nat_eq, ◌&&◌}
-use Rattle.words.specs.Number.{TellsWithin, ReadsNumber}
+use Rattle.words.specs.Number.{TellsWithin, StandsForNone, ReadsNumber}
 use Rattle.words.specs.Realm.{ReadsRealm, TellsRealms, TellsUnknown, same_realm}
-use Rattle.words.specs.Refusal.{TellsNumber, TellsValue}
+use Rattle.words.specs.Refusal.{Places, TellsNumber, TellsValue}
 use Rattle.words.specs.declared.realm.Realm.{Realm}
+use Rattle.words.specs.declared.refusal.Fault.{Fault}
 use Rattle.words.specs.declared.refusal.Refusal.{Refusal}
 
 -- where an answer can be read back from what it says, two answers that say the same are equal
@@ -17,6 +18,9 @@ same_answer saying back inverse r r' p q = sym (inverse r) ∙ ap back (p ∙ sy
 
 pub holds_determined : (width : ℕ) (bytes : List ℕ) (at : ℕ) (r r' : Bool) → TellsWithin width bytes at r → TellsWithin width bytes at r' → r ≡ r'
 holds_determined width bytes at r r' p q = p.answer ∙ sym q.answer
+
+pub zero_determined : (r r' : ℕ) → StandsForNone r → StandsForNone r' → r ≡ r'
+zero_determined r r' p q = p.answer ∙ sym q.answer
 
 -- of every width
 pub number_determined : (width : ℕ) (bytes : List ℕ) (at r r' : ℕ) → ReadsNumber width bytes at r → ReadsNumber width bytes at r' → r ≡ r'
@@ -35,6 +39,10 @@ same_realm_determined a b r r' p q = p.answer ∙ sym q.answer
 
 pub is_unknown_determined : (realm : Realm) (r r' : Bool) → TellsUnknown realm r → TellsUnknown realm r' → r ≡ r'
 is_unknown_determined realm r r' p q = p.answer ∙ sym q.answer
+
+-- a fault at a place
+pub fault_at_determined : (fault : Fault) (place : ℕ) (r r' : Refusal) → Places fault place r → Places fault place r' → r ≡ r'
+fault_at_determined fault place r r' p q = p.answer ∙ sym q.answer
 
 -- a refusal's number, and what goes with it
 pub refusal_number_determined : (refusal : Refusal) (r r' : ℕ) → TellsNumber refusal r → TellsNumber refusal r' → r ≡ r'

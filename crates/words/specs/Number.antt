@@ -29,6 +29,10 @@ number_at width at bytes = cond (within at width bytes) (number (part at width b
 pub record TellsWithin (width : ℕ) (bytes : List ℕ) (at : ℕ) (r : Bool) : Type 0 where
   pub answer : r ≡ within at width bytes
 
+-- what stands for a number whose bytes are not all there
+pub record StandsForNone (r : ℕ) : Type 0 where
+  pub answer : r ≡ 0
+
 -- reading a number of some width
 pub record ReadsNumber (width : ℕ) (bytes : List ℕ) (at : ℕ) (r : ℕ) : Type 0 where
   pub answer : r ≡ number_at width at bytes

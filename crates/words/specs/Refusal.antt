@@ -108,6 +108,10 @@ plain_says = says_by (λ none. [])
 abbrev pub number_says : Result ℕ Refusal → Said
 number_says = says_by (λ number. number ∷ [])
 
+-- the refusal of a list's fault at a place
+pub record Places (fault : Fault) (place : ℕ) (r : Refusal) : Type 0 where
+  pub answer : r ≡ Faulty fault place
+
 -- telling a refusal's number
 pub record TellsNumber (refusal : Refusal) (r : ℕ) : Type 0 where
   pub answer : r ≡ refusal_number refusal

@@ -1,6 +1,6 @@
 // Big-endian numbers, read from lent bytes.
 ghost use Rattle.std.specs.Prelude.{◌≡◌, ℕ, ◌+◌, ◌≤◌, length};
-ghost use Rattle.words.specs.Number.{number, part, TellsWithin, ReadsNumber};
+ghost use Rattle.words.specs.Number.{number, part, TellsWithin, StandsForNone, ReadsNumber};
 
 // A number of so many bytes.
 pub trait Number: Copy {
@@ -12,12 +12,11 @@ pub trait Number: Copy {
 
     // What stands for a number whose bytes are not all there.
     fn zero() -> Self
-        ensures { value result ≡ 0 };
+        ensures { StandsForNone (value result) };
 
-    // The number at a place where its bytes are.
+    // The number at a place; zero where its bytes are not all there.
     fn whole(bytes: &[u8], at: usize) -> Self
-        requires { at + WIDTH ≤ length bytes.now }
-        ensures { value result ≡ number (part at WIDTH bytes.now) };
+        ensures { ReadsNumber WIDTH bytes.now at (value result) };
 }
 
 impl Number for u16 {
@@ -32,7 +31,11 @@ impl Number for u16 {
     }
 
     fn whole(bytes: &[u8], at: usize) -> u16 {
-        u16::from_be_bytes([bytes[at], bytes[at + 1]])
+        if holds(bytes, at, Self::WIDTH) {
+            two(bytes, at)
+        } else {
+            Self::zero()
+        }
     }
 }
 
@@ -48,7 +51,11 @@ impl Number for u32 {
     }
 
     fn whole(bytes: &[u8], at: usize) -> u32 {
-        u32::from_be_bytes([bytes[at], bytes[at + 1], bytes[at + 2], bytes[at + 3]])
+        if holds(bytes, at, Self::WIDTH) {
+            four(bytes, at)
+        } else {
+            Self::zero()
+        }
     }
 }
 
@@ -64,17 +71,45 @@ impl Number for u64 {
     }
 
     fn whole(bytes: &[u8], at: usize) -> u64 {
-        u64::from_be_bytes([
-            bytes[at],
-            bytes[at + 1],
-            bytes[at + 2],
-            bytes[at + 3],
-            bytes[at + 4],
-            bytes[at + 5],
-            bytes[at + 6],
-            bytes[at + 7],
-        ])
+        if holds(bytes, at, Self::WIDTH) {
+            eight(bytes, at)
+        } else {
+            Self::zero()
+        }
     }
+}
+
+// The number that two bytes spell.
+fn two(bytes: &[u8], at: usize) -> u16
+    requires { at + 2 ≤ length bytes.now }
+    ensures { result ≡ number (part at 2 bytes.now) }
+{
+    u16::from_be_bytes([bytes[at], bytes[at + 1]])
+}
+
+// The same of four bytes.
+fn four(bytes: &[u8], at: usize) -> u32
+    requires { at + 4 ≤ length bytes.now }
+    ensures { result ≡ number (part at 4 bytes.now) }
+{
+    u32::from_be_bytes([bytes[at], bytes[at + 1], bytes[at + 2], bytes[at + 3]])
+}
+
+// The same of eight bytes: a realm has them twice, and is tested once.
+pub(crate) fn eight(bytes: &[u8], at: usize) -> u64
+    requires { at + 8 ≤ length bytes.now }
+    ensures { result ≡ number (part at 8 bytes.now) }
+{
+    u64::from_be_bytes([
+        bytes[at],
+        bytes[at + 1],
+        bytes[at + 2],
+        bytes[at + 3],
+        bytes[at + 4],
+        bytes[at + 5],
+        bytes[at + 6],
+        bytes[at + 7],
+    ])
 }
 
 // All bytes of a width at a place are there.
@@ -92,9 +127,5 @@ pub fn holds(bytes: &[u8], at: usize, width: usize) -> bool
 pub fn number_at<N: Number>(bytes: &[u8], at: usize) -> N
     ensures { ReadsNumber N.WIDTH bytes.now at (N.value result) }
 {
-    if holds(bytes, at, N::WIDTH) {
-        N::whole(bytes, at)
-    } else {
-        N::zero()
-    }
+    N::whole(bytes, at)
 }

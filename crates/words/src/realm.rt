@@ -1,7 +1,7 @@
 // Realms: sixteen bytes, held as two numbers of eight.
 ghost use Rattle.words.specs.Realm.{ReadsRealm, TellsUnknown};
 
-use crate::number::{Number, holds};
+use crate::number::{eight, holds};
 
 #[derive(Clone, Copy, PartialEq, Eq)]
 pub struct Realm {
@@ -26,8 +26,8 @@ pub fn realm_at(bytes: &[u8], at: usize) -> Realm
 {
     if holds(bytes, at, 16) {
         Realm {
-            hi: u64::whole(bytes, at),
-            lo: u64::whole(bytes, at + 8),
+            hi: eight(bytes, at),
+            lo: eight(bytes, at + 8),
         }
     } else {
         Realm::ZERO

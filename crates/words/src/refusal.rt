@@ -1,7 +1,6 @@
 // Why a call is refused: 01's table, by its numbers.
 ghost use Rattle.std.specs.Prelude.{◌≡◌};
-ghost use Rattle.words.specs.Refusal.{number_of, TellsNumber, TellsValue};
-ghost use Rattle.words.specs.declared.refusal.Refusal.TheVariants.{Faulty};
+ghost use Rattle.words.specs.Refusal.{number_of, Places, TellsNumber, TellsValue};
 
 // What is wrong with a list.
 #[derive(Clone, Copy, PartialEq, Eq)]
@@ -55,7 +54,7 @@ pub enum Refusal {
 impl Fault {
     // The refusal of a list at a place.
     pub fn at(self, place: usize) -> Refusal
-        ensures { result ≡ Faulty self place }
+        ensures { Places self place result }
     {
         Refusal::Faulty { fault: self, place }
     }

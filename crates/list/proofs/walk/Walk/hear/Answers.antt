@@ -22,4 +22,4 @@ returns-in-Ok-None c = simp (← read_is c.read_record.ensures, c.in-Ok-None.is,
 
 pub returns-in-Err : goal.returns-in-Err
 unfolding heard refused_or when_whole fault
-returns-in-Err c = simp (← read_is c.read_record.ensures, c.in-Err.is, c.at.ensures)
+returns-in-Err c = simp (← read_is c.read_record.ensures, c.in-Err.is, c.at.ensures.answer)

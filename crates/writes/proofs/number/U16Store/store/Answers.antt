@@ -1,9 +1,13 @@
-use mathlib.Core.Path.{◌∙◌}
-use Rattle.words.specs.Writing.{digits}
-use Rattle.words.proofs.Written.{copied}
-use Rattle.writes.proofs.Stored.{two_digits}
+use mathlib.Core.Path.{refl}
+use Rattle.words.proofs.Reading.{there}
+use Rattle.writes.proofs.Stored.{written_there, written_nowhere}
 use Rattle.writes.proofs.number.U16Store.store.Goals as goal
 
-pub returns : goal.returns
-unfolding digits
-returns c = copied c.args.at _ c.args.bytes.now _ (c.copy_from_slice.ensures.after ∙ c.to_be_bytes.ensures ∙ two_digits c.args.self)
+pub store_two-requires : goal.store_two-requires
+store_two-requires c = there refl c.holds.ensures c.if-holds.true
+
+pub returns-then-holds : goal.returns-then-holds
+returns-then-holds c = written_there refl c.holds.ensures c.if-holds.true c.store_two.ensures
+
+pub returns-else-holds : goal.returns-else-holds
+returns-else-holds c = written_nowhere refl c.holds.ensures c.if-holds.false refl
