@@ -28,6 +28,9 @@ use Rattle.table.specs.Layout.{table_of}
 use Rattle.table.specs.Form.{well_formed}
 use Rattle.table.specs.Fill.{Fills}
 use Rattle.table.specs.declared.slot.Slot.TheVariants.{Held}
+use Rattle.surveys.specs.Survey.{survey_says, survey_wide_says, Surveys, SurveysWide}
+use Rattle.surveys.specs.declared.scan.Seen.{Seen}
+use Rattle.surveys.specs.declared.wide.SeenWide.{SeenWide}
 use Rattle.tokens.specs.Grant.{room_says, Grants as GrantsUnjudged}
 use Rattle.tokens.specs.Widest.{widest_says, GrantsWidest as GrantsWidestUnjudged}
 use Rattle.tokens.specs.Ask.{Asks as AsksUnjudged}
@@ -39,7 +42,7 @@ use Rattle.desk.specs.Grant.{Grants}
 use Rattle.desk.specs.Widest.{GrantsWidest}
 use Rattle.desk.specs.Ask.{Asks}
 use Rattle.exchange.specs.Answer.{truth_says}
-use Rattle.histories.specs.Shape.{Shape, is_answer, is_answer_or_end, of_read, of_step, of_check, of_evaluate, of_rights, of_judge, of_plan_put, of_plan_drop, of_put, of_drop, of_fill, of_ask, of_ask_unjudged, of_grant, of_grant_unjudged, of_grant_widest, of_grant_widest_unjudged, of_return, of_drop_host, of_audit}
+use Rattle.histories.specs.Shape.{Shape, is_answer, is_answer_or_end, of_read, of_step, of_check, of_evaluate, of_rights, of_judge, of_plan_put, of_plan_drop, of_put, of_drop, of_fill, of_ask, of_ask_unjudged, of_grant, of_grant_unjudged, of_grant_widest, of_grant_widest_unjudged, of_return, of_drop_host, of_survey, of_survey_wide, of_audit}
 use Rattle.histories.specs.History.{Call, Done, Counted, Ranged, is_fill, Runs, Reached, Resumed, Gives}
 use Rattle.histories.specs.Callback.{slot_at, Item, Holds, Entry, entries_in, Listed, Turn, givens, Returned, GivenBack, return_of, Reordered, Split, return_one, Singly}
 
@@ -57,11 +60,13 @@ pub record Demand1 : Type 0 where
   pub evaluate : (list groups : List ℕ) (caller : Caller) (file : File) (r : Result Found Refusal) → Evaluates list groups caller file r → is_answer of_evaluate (evaluated_as r).says ≡ true
   pub decide : (list groups : List ℕ) (caller : Caller) (file : File) (guard : Guard) (r : Result Found Refusal) → Finds (decided list groups caller file guard) r
       → is_answer of_rights (evaluated_as r).says ≡ true
-  pub rights : (list : Bor (List ℕ)) (groups : List ℕ) (caller : Caller) (file : File) (guard : Guard) (r : Result Decision Refusal) → Decides (decided list.now groups caller file guard) list r
+  pub rights : (list : Bor (List ℕ)) (groups : List ℕ) (caller : Caller) (file : File) (guard : Guard) (r : Decision) → Decides (decided list.now groups caller file guard) list r
       → is_answer of_rights (decision_says r) ≡ true
   pub judge : (access : Access) (types : ℕ) (r : Done) → Judges access types r → is_answer of_judge (plain_says r) ≡ true
   pub plan_put : (list : List ℕ) (entry : TheEntry) (r : Result Plan Refusal) → PlansPut list entry r → is_answer of_plan_put (plan_says r) ≡ true
   pub plan_drop : (list : List ℕ) (entry : TheEntry) (r : Result Plan Refusal) → PlansDrop list entry r → is_answer of_plan_drop (plan_says r) ≡ true
+  pub survey : (bytes : List ℕ) (claim : Claim) (r : Result Seen Refusal) → Surveys bytes claim r → is_answer of_survey (survey_says r) ≡ true
+  pub survey_wide : (bytes : List ℕ) (claim : Claim) (r : Result SeenWide Refusal) → SurveysWide bytes claim r → is_answer of_survey_wide (survey_wide_says r) ≡ true
   pub audit : (bytes : List ℕ) (r : Bool) → Audits bytes r → is_answer of_audit (truth_says r) ≡ true
   pub put : (list out after : List ℕ) (entry : TheEntry) (r : Counted) → Puts list entry out r after → Ends of_put (number_says r) out after
   pub drop_entry : (list out after : List ℕ) (entry : TheEntry) (r : Counted) → DropsEntry list entry out r after → Ends of_drop (number_says r) out after

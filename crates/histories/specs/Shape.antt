@@ -89,6 +89,13 @@ of_return = shape 0 (30 ∷ 31 ∷ 36 ∷ 37 ∷ []) []
 unfoldable pub of_drop_host : Shape
 of_drop_host = shape 1 (30 ∷ 31 ∷ []) []
 
+-- one scan of a table: how many tokens are in the way; with the range's two ends where the widest range is found on the way
+unfoldable pub of_survey : Shape
+of_survey = shape 1 (30 ∷ []) []
+
+unfoldable pub of_survey_wide : Shape
+of_survey_wide = shape 3 (30 ∷ []) []
+
 -- audit never refuses: yes is 1, and no is 0; nor does what tells the rights that types need
 unfoldable pub of_audit : Shape
 of_audit = shape 1 [] []

@@ -12,13 +12,23 @@ use Rattle.evaluate.specs.declared.evaluation.Found.{Found}
 use Rattle.rights.specs.Deciding.{Finds, Decides}
 
 module _ {d : Decided} {r : Result Found Refusal} (finds : Finds d r) where
-  pub refused : {refusal : Refusal} → r ≡ Err refusal → (list : Bor (List ℕ)) → Decides d list (Err refusal)
-  unfolding evaluated_as bare says_by
-  refused {refusal = refusal} q list = record {
-    answer = ap (λ (x : Decided). x.says) (rw q at finds.answer);
-    bytes = tt;
-    place = tt;
-  }
+  module _ {refusal : Refusal} (q : r ≡ Err refusal) where
+    nowhere : 0 ≡ d.start
+    unfolding evaluated_as bare
+    nowhere = ap (λ (x : Decided). x.start) (rw q at finds.answer)
+
+    nothing : 0 ≡ d.size
+    unfolding evaluated_as bare
+    nothing = ap (λ (x : Decided). x.size) (rw q at finds.answer)
+
+    pub refused : (list : Bor (List ℕ)) (given : Bor (List ℕ)) → given.now ≡ part 0 0 list.now
+        → given.ref_ptr ≡ (list.ref_ptr.0, 0 + list.ref_ptr.1) → Decides d list (record { answer = Err refusal; part = given })
+    unfolding evaluated_as bare says_by
+    refused list given bytes place = record {
+      answer = ap (λ (x : Decided). x.says) (rw q at finds.answer);
+      bytes = rw (← nowhere, ← nothing) bytes;
+      place = rw (← nowhere) place;
+    }
 
   module _ {found : Found} (q : r ≡ Ok found) where
     pub start_is : found.start ≡ d.start
@@ -30,7 +40,7 @@ module _ {d : Decided} {r : Result Found Refusal} (finds : Finds d r) where
     size_is = ap (λ (x : Decided). x.size) (rw q at finds.answer)
 
     pub decides : (list : Bor (List ℕ)) (given : Bor (List ℕ)) → given.now ≡ part found.start found.size list.now
-        → given.ref_ptr ≡ (list.ref_ptr.0, found.start + list.ref_ptr.1) → Decides d list (Ok (record { rights = found.rights; part = given }))
+        → given.ref_ptr ≡ (list.ref_ptr.0, found.start + list.ref_ptr.1) → Decides d list (record { answer = Ok found.rights; part = given })
     unfolding evaluated_as says_by
     decides list given bytes place = record {
       answer = ap (λ (x : Decided). x.says) (rw q at finds.answer);

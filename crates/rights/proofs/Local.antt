@@ -4,8 +4,6 @@ use mathlib.Core.List.{List}
 use mathlib.Core.Bool.{false}
 use Prim.Native.Nat.{ℕ}
 use denote.Ref.{Bor}
-use Rattle.std.specs.Prelude.{Result}
-use Rattle.words.specs.declared.refusal.Refusal.{Refusal}
 use Rattle.words.specs.Realm.{zero_realm, unknown_realm, realm_at, same_realm}
 use Rattle.words.specs.declared.realm.Realm.{Realm}
 use Rattle.evaluate.specs.Evaluation.{Decided, unless_too_many, evaluation}
@@ -24,7 +22,7 @@ module _ (groups : List ℕ) (user group : ℕ) (file : File) where
   by_list list = zero_as_default list groups user group file
 
   -- the rights call answers both the same, with the same part
-  pub same_decision : (list : Bor (List ℕ)) (r r' : Result Decision Refusal)
+  pub same_decision : (list : Bor (List ℕ)) (r r' : Decision)
       → Decides (decided list.now groups (of zero_realm user group) file ByList) list r
       → Decides (decided list.now groups (of (realm_at 1 list.now) user group) file ByList) list r'
       → SameDecision r r'

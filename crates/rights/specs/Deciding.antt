@@ -1,9 +1,9 @@
 -- The rights call: its own refusals, its answer and the deciding record.
-use Rattle.std.specs.Prelude.{◌≡◌, List, [], ◌∷◌, ℕ, ◌+◌, ltb, if◌then◌else◌, Result, IfOk}
+use Rattle.std.specs.Prelude.{◌≡◌, List, [], ◌∷◌, ℕ, ◌+◌, ltb, if◌then◌else◌, Result}
 use Rattle.std.specs.Borrow.{Bor}
 use Rattle.words.specs.Said.{Said, done, refused}
 use Rattle.words.specs.Number.{part}
-use Rattle.words.specs.Refusal.{says_by}
+use Rattle.words.specs.Refusal.{number_says}
 use Rattle.words.specs.declared.refusal.Refusal.{Refusal}
 use Rattle.words.specs.Realm.{unknown_realm, same_realm}
 use Rattle.words.specs.declared.realm.Realm.{Realm}
@@ -41,11 +41,11 @@ abbrev pub decided_by : Access → Decided
 decided_by a = decided a.list.now a.groups.now a.caller a.file a.guard
 
 -- the rights, by 01's numbers
-abbrev pub decision_says : Result Decision Refusal → Said
-decision_says = says_by (λ decision. decision.rights ∷ [])
+abbrev pub decision_says : Decision → Said
+decision_says r = number_says r.answer
 
 -- deciding, with the record as a part of the list: its bytes, in the list's own memory at its place
-pub record Decides (d : Decided) (list : Bor (List ℕ)) (r : Result Decision Refusal) : Type 0 where
+pub record Decides (d : Decided) (list : Bor (List ℕ)) (r : Decision) : Type 0 where
   pub answer : decision_says r ≡ d.says
-  pub bytes : IfOk r (λ decision. decision.part.now ≡ part d.start d.size list.now)
-  pub place : IfOk r (λ decision. decision.part.ref_ptr ≡ (list.ref_ptr.0, d.start + list.ref_ptr.1))
+  pub bytes : r.part.now ≡ part d.start d.size list.now
+  pub place : r.part.ref_ptr ≡ (list.ref_ptr.0, d.start + list.ref_ptr.1)

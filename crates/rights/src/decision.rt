@@ -7,10 +7,10 @@ use crate::access::Access;
 use crate::deciding::decide;
 use words::Refusal;
 
-// The rights, and the deciding record; empty where no record decides.
+// The rights or the refusal, and the deciding record; empty where no record decides, as on a refusal.
 #[derive(Clone, Copy)]
 pub struct Decision<'a> {
-    pub rights: u8,
+    pub answer: Result<u8, Refusal>,
     pub part: &'a [u8],
 }
 
@@ -22,12 +22,17 @@ fn part_at<'a>(list: &'a [u8], start: usize, size: usize) -> &'a [u8]
 }
 
 // The rights of a caller on a file under its guard, or the refusal, with the record that decided.
-pub fn rights<'a, 'g>(access: Access<'a, 'g>) -> Result<Decision<'a>, Refusal>
+pub fn rights<'a, 'g>(access: Access<'a, 'g>) -> Decision<'a>
     ensures { Decides (decided_by access.entry) access.entry.list result }
 {
-    let found = decide(access)?;
-    Ok(Decision {
-        rights: found.rights,
-        part: part_at(access.list, found.start, found.size),
-    })
+    match decide(access) {
+        Ok(found) => Decision {
+            answer: Ok(found.rights),
+            part: part_at(access.list, found.start, found.size),
+        },
+        Err(refusal) => Decision {
+            answer: Err(refusal),
+            part: part_at(access.list, 0, 0),
+        },
+    }
 }
