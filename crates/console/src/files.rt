@@ -3,7 +3,7 @@ use crate::answer::{Answer, Said};
 use crate::console::Table;
 use crate::looking::{is_regular, may_be_written};
 use crate::mistake::Mistake;
-use arrayvec::{ArrayString, ArrayVec};
+use arrayvec::ArrayString;
 use std::fs;
 use std::fs::{Metadata, OpenFile, OpenOptions, Permissions};
 use std::io::{Error, ErrorKind, Read, Write};
@@ -39,8 +39,8 @@ pub(crate) fn load(rt: &impl Files, name: &[u8], table: &mut Table) -> Said {
     if !is_ended(&mut file) {
         return Err(Mistake::NotRead.into());
     }
-    *table = ArrayVec::from(bytes);
-    table.truncate(n);
+    table.clear();
+    let _ = table.try_extend_from_slice(bytes.get(..n).unwrap_or(&bytes));
     Ok(Answer::length(table))
 }
 

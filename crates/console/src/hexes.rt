@@ -22,16 +22,24 @@ pub(crate) fn is_dash(word: &[u8]) -> bool {
     matches!(word, b"-")
 }
 
-// The bytes of a word, two digits for each, or '-' for none; no word has more than there is room for.
-pub(crate) fn bytes_in<const N: usize>(word: &[u8]) -> Option<ArrayVec<u8, N>> {
-    let mut bytes = ArrayVec::new();
-    if is_dash(word) {
-        return Some(bytes);
+// Hex digits alone, two for each byte.
+fn are_digits(word: &[u8]) -> bool {
+    !word.is_empty() && word.len() % 2 == 0 && word.iter().all(|letter| letter.is_ascii_hexdigit())
+}
+
+// The bytes of a word, two digits for each, or '-' for none, in place of a buffer's; no word has more than there is room for. None where
+// the word says no bytes, and the buffer is as it was. A buffer made anew is as dear for one byte as for all.
+pub(crate) fn read_bytes<const N: usize>(word: &[u8], bytes: &mut ArrayVec<u8, N>) -> Option<()> {
+    if !is_dash(word) && !are_digits(word) {
+        return None;
     }
+    bytes.clear();
     for pair in word.chunks(2) {
-        let _ = bytes.try_push(byte(pair)?);
+        if let Some(byte) = byte(pair) {
+            let _ = bytes.try_push(byte);
+        }
     }
-    (!bytes.is_empty()).then_some(bytes)
+    Some(())
 }
 
 pub(crate) fn realm(word: &[u8]) -> Option<Realm> {

@@ -2,7 +2,7 @@
 // and whether answers are put in words.
 use crate::amounts::{amount, at_most, mode};
 use crate::answer::{Answer, Said};
-use crate::console::Console;
+use crate::console::{Console, Table};
 use crate::hexes;
 use crate::mistake::Mistake;
 use crate::output::SIZE;
@@ -17,6 +17,19 @@ const MOST_SLOTS: usize = 1597;
 
 // The place of the first further group among the words of a line.
 const FURTHER: usize = 4;
+
+// So many zeroes are laid down at once.
+const PIECE: usize = 1024;
+
+// Zeroes in place of a table's bytes, a piece at a time: an array of the most is as dear for one slot as for all.
+fn set_zeroes(table: &mut Table, length: usize) {
+    let piece = [0; PIECE];
+    table.clear();
+    for _ in 0..length / PIECE {
+        let _ = table.try_extend_from_slice(&piece);
+    }
+    let _ = table.try_extend_from_slice(&piece[..length % PIECE]);
+}
 
 fn caller_in(line: &[u8]) -> Option<Caller> {
     Some(Caller {
@@ -56,19 +69,18 @@ fn mode_guard_in(line: &[u8]) -> Option<Guard> {
 impl Console {
     pub(crate) fn set_table(&mut self, line: &[u8]) -> Said {
         if matches!(word(line, 1), b"hex") {
-            self.table = hexes::bytes_in(word(line, 2)).ok_or(Mistake::Bytes)?;
+            hexes::read_bytes(word(line, 2), &mut self.table).ok_or(Mistake::Bytes)?;
             return Ok(Answer::length(&self.table));
         }
         let (Some(slots), 2) = (at_most(word(line, 1), MOST_SLOTS), count(line)) else {
             return Err(Mistake::Slots.into());
         };
-        self.table = ArrayVec::from([0; 65536]);
-        self.table.truncate((1 + slots) * WIDTH);
+        set_zeroes(&mut self.table, (1 + slots) * WIDTH);
         Ok(Answer::length(&self.table))
     }
 
     pub(crate) fn set_list(&mut self, line: &[u8]) -> Said {
-        self.asked.list = hexes::bytes_in(word(line, 1)).ok_or(Mistake::Bytes)?;
+        hexes::read_bytes(word(line, 1), &mut self.asked.list).ok_or(Mistake::Bytes)?;
         Ok(Answer::length(&self.asked.list))
     }
 
@@ -78,8 +90,9 @@ impl Console {
             [] => self.out.edited.ok_or(Mistake::NoEdit)?,
             given => at_most(given, SIZE).ok_or(Mistake::Kept)?,
         };
-        self.asked.list = ArrayVec::from(self.out.bytes);
-        self.asked.list.truncate(kept);
+        let bytes = self.out.bytes.get(..kept).unwrap_or(&self.out.bytes);
+        self.asked.list.clear();
+        let _ = self.asked.list.try_extend_from_slice(bytes);
         Ok(Answer::length(&self.asked.list))
     }
 
