@@ -1,5 +1,5 @@
 -- Looking for a group among the caller's. Assumes nothing.
-use mathlib.Core.Path.{◌≡◌, sym}
+use mathlib.Core.Path.{◌≡◌}
 use mathlib.Core.List.{List}
 use mathlib.Core.Bool.{Bool, true, false}
 use Prim.Native.Nat.{ℕ, ◌+◌, ◌≤◌, ◌<◌}
@@ -34,7 +34,3 @@ module _ (caller : Caller) (groups : List ℕ) (id : ℕ) where
   pub primary : caller.group ≡ id → TellsGroup caller groups id true
   unfolding in_group
   primary e = record { answer = simp (eq-eqb caller.group id e) }
-
-  pub further : (caller.group ≡ id → ⊥) → {b : Bool} → among id groups ≡ b → TellsGroup caller groups id b
-  unfolding in_group
-  further n q = record { answer = simp (ne_eqb caller.group id n) (sym q) }

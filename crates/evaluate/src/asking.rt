@@ -1,5 +1,6 @@
 // Who asks, and of which file.
-ghost use Rattle.std.specs.Prelude.{◌≡◌};
+ghost use Rattle.std.specs.Prelude.{◌≡◌, eqb};
+ghost use Rattle.words.specs.Test.{any_of};
 ghost use Rattle.evaluate.specs.Asking.{of_default_realm, TellsGroup};
 
 use words::Realm;
@@ -27,18 +28,22 @@ pub(crate) fn is_of_default_realm(caller: Caller, default: Realm) -> bool
     caller.realm == Realm::ZERO || caller.realm == default
 }
 
-// The caller's primary group, or one of those lent. By a `for`: `contains` is a call for each record (tried, 13 instructions more).
-#[tactic(auto, unfolding(crate::specs::Asking::in_group))]
-pub fn is_in_group(caller: Caller, groups: &[u32], id: u32) -> bool
-    ensures { TellsGroup caller groups.now id result }
+// One of the groups lent. By a `for`: `contains` is a call for each record (tried, 13 instructions more).
+fn is_among(groups: &[u32], id: u32) -> bool
+    ensures { result ≡ any_of (λ g. eqb g id) groups.now }
 {
-    if caller.group == id {
-        return true;
-    }
     for group in groups {
         if *group == id {
             return true;
         }
     }
     false
+}
+
+// The caller's primary group, or one of those lent.
+#[tactic(auto, unfolding(crate::specs::Asking::in_group))]
+pub fn is_in_group(caller: Caller, groups: &[u32], id: u32) -> bool
+    ensures { TellsGroup caller groups.now id result }
+{
+    caller.group == id || is_among(groups, id)
 }
