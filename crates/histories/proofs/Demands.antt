@@ -1,5 +1,5 @@
 -- The customer's demands hold of every table that calls reach. Assumes nothing.
-use Rattle.std.specs.Prelude.{if◌then◌else◌, Result, Ok, Err}
+use Rattle.std.specs.Prelude.{if◌then◌else◌, Result, Ok, Err, IfErr}
 use mathlib.Core.Path.{◌≡◌, refl, sym, ◌∙◌, ap}
 use mathlib.Core.Bool.{Bool, true, false}
 use mathlib.Core.List.{List, [], ◌∷◌, ◌++◌}
@@ -23,15 +23,13 @@ use Rattle.table.specs.Layout.{table_of, bytes_of}
 use Rattle.words.specs.Test.{any_of}
 use Rattle.words.specs.Refusal.{refusal_number, refusal_value, values_in, refusal_says, says_by, number_says}
 use Rattle.words.specs.declared.refusal.Refusal.{Refusal}
+use Rattle.words.specs.declared.refusal.Refusal.TheVariants.{NotWellFormed}
 use Rattle.entry.specs.Plan.{plan_values, plan_at}
 use Rattle.table.specs.Call.{says_of, left_of}
 use Rattle.table.specs.declared.slot.Slot.TheVariants.{Held}
 use Rattle.table.proofs.Calls.{says_well}
 use Rattle.words.proofs.Refusals.{same_number}
 use Rattle.table.proofs.Means.{Ordered, table_bytes, bytes_formed, order_at, below_next}
-use Rattle.surveys.specs.Survey.{survey_says, survey_wide_says, Surveys, SurveysWide}
-use Rattle.surveys.specs.declared.scan.Seen.{Seen}
-use Rattle.surveys.specs.declared.wide.SeenWide.{SeenWide}
 use Rattle.tokens.specs.Grant.{request_says, serve_says, room_says}
 use Rattle.tokens.specs.Widest.{with_more, Widened}
 use Rattle.tokens.specs.Ask.{in_the_way, list_for, list_says}
@@ -83,22 +81,19 @@ widest_ends {spoken} s says bytes after claim a w = record {
     as_refused (done values) e = e
     as_refused (refused number values) e = refl
 
-survey_answers : (bytes : List ℕ) (claim : Claim) (r : Result Seen Refusal) → Surveys bytes claim r → is_answer of_survey (survey_says r) ≡ true
-unfolding is_answer says_by refusal_says refusal_number refusal_value values_in of_survey shape any_of
-survey_answers bytes claim (Ok seen) s = refl
-survey_answers bytes claim (Err refusal) s = rw s.ill.1 refl
-
-survey_wide_answers : (bytes : List ℕ) (claim : Claim) (r : Result SeenWide Refusal) → SurveysWide bytes claim r → is_answer of_survey_wide (survey_wide_says r) ≡ true
-unfolding is_answer says_by refusal_says refusal_number refusal_value values_in of_survey_wide shape any_of
-survey_wide_answers bytes claim (Ok told) s = refl
-survey_wide_answers bytes claim (Err refusal) s = rw s.ill.1 refl
+-- of a call that is answered in the shape, or refused for the table's form alone
+formed_answers : {A : Type 0} (X : Type 0) (s : Shape) (values : A → List ℕ) → ((a : A) → is_answer s (done (values a)) ≡ true) → is_answer s (refused 30 []) ≡ true
+    → (r : Result A Refusal) → IfErr r (λ refusal. X × (refusal ≡ NotWellFormed)) → is_answer s (says_by values r) ≡ true
+unfolding says_by refusal_says refusal_number refusal_value values_in
+formed_answers X s values answers ill (Ok a) e = answers a
+formed_answers X s values answers ill (Err refusal) e = rw e.1 ill
 
 pub audit_answers : (truth : Bool) → is_answer of_audit (truth_says truth) ≡ true
 unfolding is_answer truth_says of_audit shape
 audit_answers truth = refl
 
 pub demand1 : Demand1
-unfolding says_by plan_values plan_at
+unfolding says_by plan_values plan_at is_answer of_survey of_survey_wide shape any_of
 demand1 = record {
   check = λ list r c. rw c.answer (check_answers list);
   read_record = λ tail r p. rw p.answer (read_answers tail);
@@ -109,8 +104,8 @@ demand1 = record {
   judge = λ access types r j. rw j.answer (access_answers access types);
   plan_put = λ list entry r p. rw p.answer (plan_put_answers list entry _ _ _ _);
   plan_drop = λ list entry r p. rw p.answer (plan_drop_answers list entry _ _ _ _);
-  survey = λ bytes claim r s. survey_answers bytes claim r s;
-  survey_wide = λ bytes claim r s. survey_wide_answers bytes claim r s;
+  survey = λ bytes claim r s. formed_answers _ of_survey _ (λ seen. refl) refl r s.ill;
+  survey_wide = λ bytes claim r s. formed_answers _ of_survey_wide _ (λ told. refl) refl r s.ill;
   audit = λ bytes r a. audit_answers r;
   put = λ list out after entry r p. ends of_put _ _ out after p.answer (put_answers list entry out) p.out_after;
   drop_entry = λ list out after entry r p. ends of_drop _ _ out after p.answer (drop_entry_answers list entry out) p.out_after;
