@@ -1,5 +1,5 @@
 -- Looking for a group among the caller's. Assumes nothing.
-use mathlib.Core.Path.{◌≡◌}
+use mathlib.Core.Path.{◌≡◌, sym}
 use mathlib.Core.List.{List}
 use mathlib.Core.Bool.{Bool, true, false}
 use Prim.Native.Nat.{ℕ, ◌+◌, ◌≤◌, ◌<◌}
@@ -30,7 +30,12 @@ module _ (id : ℕ) (groups : List ℕ) (i : ℕ) where
   unfolding any_of
   not_here h n = rw (drop-cons groups i 0, ne_eqb (get_or groups i 0) id n, add-one)
 
+-- what tells of a caller, for those who build on this crate: the primary group, or where that is another, the further ones
 module _ (caller : Caller) (groups : List ℕ) (id : ℕ) where
   pub primary : caller.group ≡ id → TellsGroup caller groups id true
   unfolding in_group
   primary e = record { answer = simp (eq-eqb caller.group id e) }
+
+  pub further : (caller.group ≡ id → ⊥) → {b : Bool} → among id groups ≡ b → TellsGroup caller groups id b
+  unfolding in_group
+  further n q = record { answer = simp (ne_eqb caller.group id n) (sym q) }
