@@ -30,7 +30,7 @@ module _ (id : ℕ) (groups : List ℕ) (i : ℕ) where
   unfolding any_of
   not_here h n = rw (drop-cons groups i 0, ne_eqb (get_or groups i 0) id n, add-one)
 
--- what tells of a caller, for those who build on this crate: the primary group, or where that is another, the further ones
+-- a caller is in a group by its primary one, or where that is another, by the further ones: laws for crates above
 module _ (caller : Caller) (groups : List ℕ) (id : ℕ) where
   pub primary : caller.group ≡ id → TellsGroup caller groups id true
   unfolding in_group
